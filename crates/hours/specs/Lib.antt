@@ -1,0 +1,5 @@
+pub mod Bounds
+pub mod Periods
+pub mod Faults
+pub mod Questions
+pub mod Refusals
