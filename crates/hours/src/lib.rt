@@ -4,6 +4,7 @@
 // `source` has the interface; `average`, `recorded` and `proxy` are the sources that ship.
 mod fault;
 mod period;
+mod recorded;
 mod source;
 mod unlawful;
 
@@ -44,6 +45,10 @@ pub use period::is_lawful_slot;
 pub use period::is_lawful_year;
 pub use period::is_past_year;
 pub use period::same_slot;
+pub use recorded::Counts;
+pub use recorded::CountsDebug;
+pub use recorded::CountsEq;
+pub use recorded::CountsPartialEq;
 pub use source::HourSource;
 pub use source::MOST_HOURS;
 pub use unlawful::Unlawful;
