@@ -1,0 +1,4 @@
+mod RecordedLawful
+mod RecordedSteps
+mod RecordedFirst
+mod RecordedSecond

@@ -6,3 +6,4 @@ pub mod Refusals
 pub mod RecordedEntries
 pub mod RecordedFormat
 pub mod RecordedTables
+pub mod RecordedReading

@@ -2,6 +2,7 @@
 //
 // `check` refuses unlawful numbers and names the entry at fault; `made` holds numbers with the tables that answer questions about them.
 mod entry;
+mod reading;
 mod tables;
 
 pub use entry::Counts;
