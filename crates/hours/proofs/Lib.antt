@@ -2,3 +2,6 @@ mod RecordedLawful
 mod RecordedSteps
 mod RecordedFirst
 mod RecordedSecond
+mod RecordedLoop
+mod RecordedTables
+mod RecordedAlike
