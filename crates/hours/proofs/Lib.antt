@@ -5,3 +5,4 @@ mod RecordedSecond
 mod RecordedLoop
 mod RecordedTables
 mod RecordedAlike
+mod RecordedAnswers

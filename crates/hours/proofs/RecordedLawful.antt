@@ -14,8 +14,9 @@ use Rattle.hours.specs.declared.period.Slot.{Slot}
 use Rattle.hours.specs.declared.recorded.entry.Counts.{Counts}
 use Rattle.hours.specs.declared.recorded.entry.Entry.{Entry}
 use Rattle.hours.specs.declared.recorded.entry.Head.{Head}
+use Rattle.hours.specs.declared.recorded.entry.Series.{Series}
 use Rattle.hours.specs.Periods.{lawfulSlot}
-use Rattle.hours.specs.RecordedEntries.{andThen, upTo, slotFrom, entryFrom, headFrom, LawfulSeries, fitting}
+use Rattle.hours.specs.RecordedEntries.{andThen, upTo, slotFrom, entryFrom, headFrom, lawfulSeries, LawfulSeries, fitting}
 
 pub not-none : {A X : Type 0} (a : A) → _≡_ {A = Option A} None (Some a) → X
 not-none a e = let z : _≡_ {A = ℕ} 0 1 = cc in absurd (omega arith)
@@ -84,3 +85,9 @@ head-lawful xs h e =
 -- what fits has hours
 pub fitting-some : (o : Option Counts) (there : Bool) (h : Head) → fitting o there h ≡ true → h .hours ≡ 0 → ⊥
 fitting-some o there h e z = grind (arith, tells)
+
+pub series-lawful : (s : Series) → lawfulSeries s ≡ true → LawfulSeries s
+series-lawful s e = (grind (arith, tells), grind (arith, tells), grind (arith, tells))
+
+pub series-unlawful : (s : Series) → lawfulSeries s ≡ false → LawfulSeries s → ⊥
+series-unlawful s e l = let a = l .0 in let b = l .1 in let c = l .2 in grind (arith, tells)

@@ -7,3 +7,4 @@ pub mod RecordedEntries
 pub mod RecordedFormat
 pub mod RecordedTables
 pub mod RecordedReading
+pub mod RecordedSpans

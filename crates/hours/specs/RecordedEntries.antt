@@ -14,7 +14,7 @@ use Rattle.hours.specs.declared.recorded.entry.Counts.{Counts}
 use Rattle.hours.specs.declared.recorded.entry.Entry.{Entry}
 use Rattle.hours.specs.declared.recorded.entry.Series.{Series}
 use Rattle.hours.specs.declared.recorded.entry.Head.{Head}
-use Rattle.hours.specs.Periods.{lawfulSlot, sameSlot}
+use Rattle.hours.specs.Periods.{lawfulSlot, pastYear, sameSlot}
 
 -- what is made of a value, if there is one
 abbrev pub andThen : {A B : Type 0} → Option A → (A → Option B) → Option B
@@ -66,6 +66,9 @@ lawfulPrice x = leZ (negℤ (pos 200000)) x && leZ x (pos 200000)
 abbrev pub sameSeries : Series → Series → Bool
 sameSeries a b = eqb (a .location) (b .location) && (sameSlot (a .slot) (b .slot) && eqb (a .year) (b .year))
 
--- a series that there can be
+-- a series that there can be: of one of 64 locations, in a lawful slot and a past year
+abbrev pub lawfulSeries : Series → Bool
+lawfulSeries s = lawfulSlot (s .slot) && (pastYear (s .year) && leb (s .location) 63)
+
 abbrev pub LawfulSeries : Series → Type 0
 LawfulSeries s = (lawfulSlot (s .slot) ≡ true) × (s .location ≤ 63) × (s .year ≤ 1)

@@ -49,6 +49,8 @@ pub use recorded::Counts;
 pub use recorded::CountsDebug;
 pub use recorded::CountsEq;
 pub use recorded::CountsPartialEq;
+pub use recorded::Recorded;
+pub use recorded::RecordedHours;
 pub use recorded::check_recorded;
 pub use source::HourSource;
 pub use source::MOST_HOURS;

@@ -1,11 +1,12 @@
 // The entries of recorded hours, each taken from its own numbers.
-ghost use Rattle.hours.specs.RecordedEntries.{upTo, slotFrom, entryFrom, headFrom, hoursBy, lawfulPrice};
+ghost use Rattle.hours.specs.RecordedEntries.{upTo, slotFrom, entryFrom, headFrom, hoursBy, lawfulPrice, lawfulSeries};
 ghost use mathlib.Core.Path.{_≡_};
 use crate::period::DISTANT;
 use crate::period::Period;
 use crate::period::RECENT;
 use crate::period::Slot;
 use crate::period::is_lawful_slot;
+use crate::period::is_past_year;
 
 // How many hours a slot has in the recent year, in the distant year and ahead.
 #[derive(Clone, Copy, PartialEq, Eq, Debug)]
@@ -80,7 +81,7 @@ pub fn entry_of(read: [i32; 6]) -> Option<Entry>
 pub fn head_of(read: [i32; 6]) -> Option<Head>
     ensures { λ r. ⌜ r ≡ headFrom read ⌝ }
 {
-    let location = up_to(63, read[0])?;
+    let location = up_to(RECORDED_LOCATIONS - 1, read[0])?;
     let slot = slot_of(read[1], read[2], read[3])?;
     let year = up_to(1, read[4])?;
     let hours = hour_count(read[5])?;
@@ -100,6 +101,15 @@ pub fn hours_by(counts: Option<Counts>, year: u8) -> u16
             _ => counts.ahead,
         },
     }
+}
+
+// The locations that there can be prices of.
+pub const RECORDED_LOCATIONS: u8 = 64;
+
+pub fn is_lawful_series(series: Series) -> bool
+    ensures { λ r. ⌜ r ≡ lawfulSeries series ⌝ }
+{
+    is_lawful_slot(series.slot) && is_past_year(series.year) && series.location < RECORDED_LOCATIONS
 }
 
 // A price is within 200,000 cents either way.
