@@ -1,1 +1,3 @@
 pub mod Years
+pub mod Lookups
+pub mod Faulty

@@ -4,6 +4,7 @@
 // `source` has the interface; `average`, `recorded` and `proxy` are the sources that ship.
 mod fault;
 mod period;
+mod rows;
 mod source;
 mod unlawful;
 
