@@ -1,3 +1,4 @@
 pub mod Years
 pub mod Lookups
 pub mod Faulty
+pub mod LawfulRows
