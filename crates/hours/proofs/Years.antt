@@ -1,6 +1,6 @@
 -- What the laws of a source give for a year that is there, and a year written hour by hour.
 use Prim.Native.Nat.{ℕ, _+_, _<_, _≤_}
-use mathlib.Core.Path.{_≡_, refl, sym, ap, _∙_}
+use mathlib.Core.Path.{_≡_, refl, sym, ap, subst, _∙_}
 use mathlib.Core.Bool.{Bool, true, false, cond, _&&_}
 use mathlib.Core.List.{List, [], _∷_, _++_}
 use native.Mathlib.Omega.{arith}
@@ -18,7 +18,8 @@ use Rattle.hours.specs.declared.fault.Fault.{Fault}
 use Rattle.hours.specs.declared.period.Slot.{Slot}
 use Rattle.hours.specs.Faults.{unlawfulQuestion, unknownLocation, lackingYear, pastCount}
 use Rattle.hours.specs.Periods.{lawfulSlot, lawfulYear, pastYear}
-use Rattle.hours.specs.Questions.{counted, present, yearOf, hourOf}
+use Rattle.hours.specs.Bounds.{Within}
+use Rattle.hours.specs.Questions.{counted, present, yearOf, hourOf, priced}
 
 -- two answers that cannot be one
 pub clash : {T E A : Type 0} (x : T) (e : E) → _≡_ {A = Result T E} (Ok x) (Err e) → A
@@ -118,3 +119,10 @@ hour-below zs l y h below = ap (λ (b : Bool). cond b (Ok (getD zs h (pos 0))) (
 
 pub hour-past : (zs : List ℤ) (l y h : ℕ) → length zs ≤ h → hourOf (Ok zs) l y h ≡ Err (pastCount l y)
 hour-past zs l y h past = ap (λ (b : Bool). cond b (Ok (getD zs h (pos 0))) (Err (pastCount l y))) (le-ltb h (length zs) past)
+
+-- a price that is answered is within the bound
+pub priced-small : (locations : ℕ) (prices : ℕ → Slot → ℕ → Option (List ℤ)) → ((l : ℕ) (s : Slot) (y : ℕ) (zs : List ℤ) (h : ℕ) → prices l s y ≡ Some zs → Within 200000 (getD zs h (pos 0))) →
+    (l : ℕ) (s : Slot) (y h : ℕ) (z : ℤ) → Ok z ≡ priced locations prices l s y h → Within 200000 z
+priced-small locations prices small l s y h z e =
+    let a = hour-there (yearOf locations prices l s y) l y h z e in
+    subst (Within 200000) (sym (a .3)) (small l s y (a .0) h (asked locations prices l s y (a .0) (a .1) .there))
