@@ -71,3 +71,9 @@ sumOf answers (suc n) = plusAnswer (answers n) (sumOf answers n)
 abbrev pub numberOf : (ℕ → Result ℤ Fault) → ℕ → ℕ
 numberOf answers zero = 0
 numberOf answers (suc n) = plusAnswered (answers n) (numberOf answers n)
+
+-- A worked figure: location 0 has the price a in the one hour of a year, location 1 has b, and no other has the year.
+abbrev pub twoPrices : ℤ → ℤ → ℕ → Option (List ℤ)
+twoPrices a b zero = Some (a ∷ [])
+twoPrices a b (suc zero) = Some (b ∷ [])
+twoPrices a b (suc (suc l)) = None

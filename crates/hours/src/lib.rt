@@ -53,6 +53,7 @@ pub use period::is_past_year;
 pub use period::same_slot;
 pub use proxy::Proxy;
 pub use proxy::ProxyHours;
+pub use proxy::stand_in_for_five_and_minus_six;
 pub use rows::CountRow;
 pub use rows::CountRowDebug;
 pub use rows::CountRowEq;

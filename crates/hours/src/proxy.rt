@@ -3,8 +3,11 @@ ghost use Prim.Native.Nat.{ℕ, _*_, _<_, _≤_};
 ghost use Rattle.hours.specs.Bounds.{Within};
 ghost use Rattle.hours.specs.Periods.{lawfulSlot, pastYear};
 ghost use Rattle.hours.specs.Questions.{present, hourOf, priced};
-ghost use Rattle.hours.specs.StandIns.{meanDown, standIn, proxied, sumOf, numberOf};
+ghost use Rattle.hours.specs.StandIns.{meanDown, standIn, proxied, sumOf, numberOf, twoPrices};
+ghost use Rattle.std.specs.declared.option.Option.the-variants.{Some};
 ghost use lib.Dec.{ltb};
+ghost use lib.IntN.{pos, negsuc};
+ghost use mathlib.Core.List.{[], _∷_};
 ghost use mathlib.Core.Bool.{true, cond};
 ghost use mathlib.Core.Path.{_≡_};
 use super::fault::Cause;
@@ -77,6 +80,14 @@ fn stand_in<S: HourSource>(
         return Err(past_count(location, year));
     }
     Ok(mean_down(sum, number))
+}
+
+// Where two locations have 5 and -6, a third that lacks the year gets -1: the mean of -1/2 is rounded down, not toward zero.
+pub fn stand_in_for_five_and_minus_six() -> i32
+    ensures minus_one { λ r. ⌜ r ≡ negsuc 0 ⌝ }
+    ensures proxied { λ r. ⌜ proxied (twoPrices (pos 5) (negsuc 5)) 3 1 2 ≡ Some (r ∷ []) ⌝ }
+{
+    mean_down(5 - 6, 2)
 }
 
 pub impl<S: HourSource> HourSource for Proxy<S> as ProxyHours {
