@@ -1,4 +1,4 @@
-// Average hours: every hour of a location's year has the year's mean price.
+//! Average hours: every hour of a location's year has the year's mean price.
 ghost use Rattle.hours.specs.Means.{rowsRefusal};
 ghost use Rattle.std.specs.Of.Vec.{vec-items};
 ghost use Rattle.std.specs.Options.{isSome};
@@ -11,7 +11,7 @@ use super::rows::MeanRow;
 use super::rows::rows_refusal;
 use super::unlawful::Unlawful;
 
-// At most 12 rows of counts and 48 rows of means, all lawful, none listed twice.
+/// At most 12 rows of counts and 48 rows of means, all lawful, none listed twice.
 #[derive(Drop)]
 pub struct Average {
     pub(super) counts: Vec<CountRow>,
@@ -19,7 +19,7 @@ pub struct Average {
     ghost lawful: { isSome (rowsRefusal (vec-items counts) (vec-items means)) ≡ false },
 }
 
-// Rows that make no source, as they were given, and the line that is at fault.
+/// Rows that make no source, as they were given, and the line that is at fault.
 #[derive(Drop)]
 pub struct RefusedRows {
     pub unlawful: Unlawful,
@@ -28,7 +28,7 @@ pub struct RefusedRows {
 }
 
 impl Average {
-    // A source of these rows, or the rows back with the line at which they are refused: the rows of counts are numbered first, then those of means.
+    /// A source of these rows, or the rows back with the line at which they are refused: the rows of counts are numbered first, then those of means.
     pub fn new(counts: Vec<CountRow>, means: Vec<MeanRow>) -> Result<Average, RefusedRows>
         ensures made { λ r. ⌜ ByOk r (λ a. (a .counts ≡ counts) × (a .means ≡ means)) (λ e. (e .counts ≡ counts) × (e .means ≡ means)) ⌝ }
         ensures refusal { λ r. ⌜ ByOk r (λ a. rowsRefusal (vec-items counts) (vec-items means) ≡ None) (λ e. rowsRefusal (vec-items counts) (vec-items means) ≡ Some (e .unlawful .line)) ⌝ }

@@ -1,4 +1,4 @@
-// Average hours as an hour source.
+//! Average hours as an hour source.
 ghost use Rattle.hours.specs.Means.{rowsCount, meanPrices};
 ghost use Rattle.std.specs.Of.Vec.{vec-items};
 use super::average::Average;

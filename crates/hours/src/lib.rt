@@ -1,7 +1,7 @@
-// Hour sources: for each period and class, how many hours two past years and the period ahead have,
-// and for each location the congestion price of every hour of a past year.
-//
-// `source` has the interface; `average`, `recorded` and `proxy` are the sources that ship.
+//! Hour sources: for each period and class, how many hours two past years and the period ahead have,
+//! and for each location the congestion price of every hour of a past year.
+//!
+//! `source` has the interface; `average`, `recorded` and `proxy` are the sources that ship.
 mod average;
 mod average_hours;
 mod fault;

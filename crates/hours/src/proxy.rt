@@ -1,4 +1,4 @@
-// The proxy: over any source, a location that lacks a year gets the mean of the locations that have it, hour by hour.
+//! The proxy: over any source, a location that lacks a year gets the mean of the locations that have it, hour by hour.
 ghost use Prim.Native.Nat.{ℕ, _*_, _<_, _≤_};
 ghost use Rattle.hours.specs.Bounds.{Within};
 ghost use Rattle.hours.specs.Periods.{lawfulSlot, pastYear};
@@ -17,13 +17,13 @@ use super::fault::past_count;
 use super::period::Slot;
 use super::source::HourSource;
 
-// Stands over the source `below`, and knows the locations that it knows.
+/// Stands over the source `below`, and knows the locations that it knows.
 #[derive(Drop)]
 pub struct Proxy<S> {
     pub below: S,
 }
 
-// The mean of `count` prices with this sum, rounded down: `/` would round a negative one up.
+/// The mean of `count` prices with this sum, rounded down: `/` would round a negative one up.
 fn mean_down(sum: i64, count: u8) -> i32
     requires some { ⌜ 0 < count ⌝ }
     requires few { ⌜ count ≤ 64 ⌝ }
@@ -33,7 +33,7 @@ fn mean_down(sum: i64, count: u8) -> i32
     sum.div_euclid(i64::from(count)) as i32
 }
 
-// The sum of the prices that the locations have in an hour, and how many have one.
+/// The sum of the prices that the locations have in an hour, and how many have one.
 fn prices_at<S: HourSource>(below: &S, slot: Slot, year: u8, hour: u16) -> (i64, u8)
     ensures sum { λ r. ⌜ r .0 ≡ sumOf (λ l. priced (S·HourSource .locations) (S·HourSource .prices (now (below .entry))) l slot year hour) (S·HourSource .locations) ⌝ }
     ensures number { λ r. ⌜ r .1 ≡ numberOf (λ l. priced (S·HourSource .locations) (S·HourSource .prices (now (below .entry))) l slot year hour) (S·HourSource .locations) ⌝ }
@@ -52,14 +52,14 @@ fn prices_at<S: HourSource>(below: &S, slot: Slot, year: u8, hour: u16) -> (i64,
     (sum, number)
 }
 
-// The hour, or the first one in place of an hour past the count: whether some location has the year shows at any hour that the year has.
+/// The hour, or the first one in place of an hour past the count: whether some location has the year shows at any hour that the year has.
 fn hour_or_first(hour: u16, count: u16) -> u16
     ensures { λ r. ⌜ r ≡ cond (ltb hour count) hour 0 ⌝ }
 {
     if hour < count { hour } else { 0 }
 }
 
-// The price of an hour of a year that the location lacks.
+/// The price of an hour of a year that the location lacks.
 fn stand_in<S: HourSource>(
     below: &S,
     location: u8,
@@ -82,7 +82,7 @@ fn stand_in<S: HourSource>(
     Ok(mean_down(sum, number))
 }
 
-// Where two locations have 5 and -6, a third that lacks the year gets -1: the mean of -1/2 is rounded down, not toward zero.
+/// Where two locations have 5 and -6, a third that lacks the year gets -1: the mean of -1/2 is rounded down, not toward zero.
 pub fn stand_in_for_five_and_minus_six() -> i32
     ensures minus_one { λ r. ⌜ r ≡ negsuc 0 ⌝ }
     ensures proxied { λ r. ⌜ proxied (twoPrices (pos 5) (negsuc 5)) 3 1 2 ≡ Some (r ∷ []) ⌝ }
