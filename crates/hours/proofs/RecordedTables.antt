@@ -109,12 +109,13 @@ series-apart a b s t e h =
 -- an entry of the first section more
 
 few-by : (c : Counts) (y : ℕ) → FewHours c → hoursBy (Some c) y ≤ 9000
-few-by c y f = go (eqb y 0) (eqb y 1)
+few-by c y f = go (eqb y 0) (eqb y 1) (eqb y 2)
   where
-    go : (a b : Bool) → cond a (c .recent) (cond b (c .distant) (c .ahead)) ≤ 9000
-    go true b = f .0
-    go false true = f .1
-    go false false = f .2
+    go : (a b d : Bool) → cond a (c .recent) (cond b (c .distant) (cond d (c .ahead) 0)) ≤ 9000
+    go true b d = f .0
+    go false true d = f .1
+    go false false true = f .2
+    go false false false = omega arith
 
 few-either : (b : Bool) (c : Counts) (o : Option Counts) (y : ℕ) → FewHours c → hoursBy o y ≤ 9000 → hoursBy (cond b (Some c) o) y ≤ 9000
 few-either true c o y f h = few-by c y f

@@ -4,7 +4,7 @@ use mathlib.Core.List.{List}
 use mathlib.Core.Bool.{Bool, true, false, cond, not, _&&_}
 use Prim.Native.Nat.{ℕ, _≤_}
 use lib.Dec.{leb, eqb}
-use lib.IntN.{ℤ, pos, negℤ, natAbs}
+use lib.IntN.{ℤ, pos, natAbs}
 use lib.Signed.{leZ}
 use lib.ListN.{getD}
 use Rattle.std.specs.declared.option.Option.{Option}
@@ -14,6 +14,7 @@ use Rattle.hours.specs.declared.recorded.entry.Counts.{Counts}
 use Rattle.hours.specs.declared.recorded.entry.Entry.{Entry}
 use Rattle.hours.specs.declared.recorded.entry.Series.{Series}
 use Rattle.hours.specs.declared.recorded.entry.Head.{Head}
+use Rattle.hours.specs.Bounds.{within}
 use Rattle.hours.specs.Periods.{lawfulSlot, pastYear, sameSlot}
 
 -- what is made of a value, if there is one
@@ -53,7 +54,7 @@ headFrom xs =
 -- the hours of a year by the counts of its slot: 0 where the slot is not listed
 abbrev pub hoursBy : Option Counts → ℕ → ℕ
 hoursBy None year = 0
-hoursBy (Some c) year = cond (eqb year 0) (c .recent) (cond (eqb year 1) (c .distant) (c .ahead))
+hoursBy (Some c) year = cond (eqb year 0) (c .recent) (cond (eqb year 1) (c .distant) (cond (eqb year 2) (c .ahead) 0))
 
 -- whether the entry of a head may stand: it has at least one hour, as many as the counts of its slot say, and it is not there already
 abbrev pub fitting : Option Counts → Bool → Head → Bool
@@ -61,7 +62,7 @@ fitting known there h = leb 1 (h .hours) && (eqb (h .hours) (hoursBy known (h .s
 
 -- a price is within 200,000 cents either way
 abbrev pub lawfulPrice : ℤ → Bool
-lawfulPrice x = leZ (negℤ (pos 200000)) x && leZ x (pos 200000)
+lawfulPrice x = within 200000 x
 
 abbrev pub sameSeries : Series → Series → Bool
 sameSeries a b = eqb (a .location) (b .location) && (sameSlot (a .slot) (b .slot) && eqb (a .year) (b .year))

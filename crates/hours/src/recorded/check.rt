@@ -1,4 +1,4 @@
-// The check of recorded hours: every number once, in its order.
+//! The check of recorded hours: every number once, in its order.
 ghost use Rattle.hours.specs.RecordedFormat.{records, checked};
 ghost use Rattle.hours.specs.RecordedTables.{emptyTables, tablesRead, tablesOf, cameOut};
 ghost use mathlib.Core.Path.{_≡_};
@@ -7,10 +7,10 @@ use super::reading::Reading;
 use super::tables::Tables;
 use crate::unlawful::Unlawful;
 
-// More numbers are refused before any is looked at.
+/// More numbers are refused before any is looked at.
 const MOST_NUMBERS: usize = 1_000_000;
 
-// Reads all numbers into empty tables, or answers the line of the first fault. Most numbers are prices, so they are taken here.
+/// Reads all numbers into empty tables, or answers the line of the first fault. Most numbers are prices, so they are taken here.
 fn read_numbers(numbers: &[i32], tables: &mut Tables) -> Result<(), u32>
     requires { ⌜ now tables ≡ emptyTables ⌝ }
     ensures { λ r. ⌜ tablesRead (now (numbers .entry)) ≡ cameOut r (now (tables .exit)) ⌝ }
@@ -34,8 +34,8 @@ fn read_numbers(numbers: &[i32], tables: &mut Tables) -> Result<(), u32>
     reading.end(owed)
 }
 
-// Refuses numbers that are not recorded hours. The line is the first entry at fault, both sections counted through from 1,
-// and 0 where no entry is to blame: too many numbers, a count that is missing or negative, or numbers left over.
+/// Refuses numbers that are not recorded hours. The line is the first entry at fault, both sections counted through from 1,
+/// and 0 where no entry is to blame: too many numbers, a count that is missing or negative, or numbers left over.
 pub fn check_recorded(numbers: &[i32]) -> Result<(), Unlawful>
     ensures { λ r. ⌜ r ≡ checked (records (now (numbers .entry))) ⌝ }
 {
@@ -46,7 +46,7 @@ pub fn check_recorded(numbers: &[i32]) -> Result<(), Unlawful>
     }
 }
 
-// The tables of the numbers, and empty ones where the numbers are refused.
+/// The tables of the numbers, and empty ones where the numbers are refused.
 pub fn tables_of(numbers: &[i32]) -> Tables
     ensures { λ r. ⌜ r ≡ tablesOf (now (numbers .entry)) ⌝ }
 {

@@ -1,6 +1,7 @@
-// The entries of recorded hours, each taken from its own numbers.
+//! The entries of recorded hours, each taken from its own numbers.
 ghost use Rattle.hours.specs.RecordedEntries.{upTo, slotFrom, entryFrom, headFrom, hoursBy, lawfulPrice, lawfulSeries};
 ghost use mathlib.Core.Path.{_≡_};
+use crate::period::AHEAD;
 use crate::period::DISTANT;
 use crate::period::Period;
 use crate::period::RECENT;
@@ -8,7 +9,7 @@ use crate::period::Slot;
 use crate::period::is_lawful_slot;
 use crate::period::is_past_year;
 
-// How many hours a slot has in the recent year, in the distant year and ahead.
+/// How many hours a slot has in the recent year, in the distant year and ahead.
 #[derive(Clone, Copy, PartialEq, Eq, Debug)]
 pub struct Counts {
     pub recent: u16,
@@ -16,14 +17,14 @@ pub struct Counts {
     pub ahead: u16,
 }
 
-// An entry of the first section: the counts of a slot.
+/// An entry of the first section: the counts of a slot.
 #[derive(Clone, Copy)]
 pub struct Entry {
     pub slot: Slot,
     pub counts: Counts,
 }
 
-// What an entry of the second section lists the prices of.
+/// What an entry of the second section lists the prices of.
 #[derive(Clone, Copy)]
 pub struct Series {
     pub location: u8,
@@ -31,7 +32,7 @@ pub struct Series {
     pub year: u8,
 }
 
-// An entry of the second section up to its prices, and how many of them follow.
+/// An entry of the second section up to its prices, and how many of them follow.
 #[derive(Clone, Copy)]
 pub struct Head {
     pub series: Series,
@@ -89,7 +90,7 @@ pub fn head_of(read: [i32; 6]) -> Option<Head>
     Some(Head { series, hours })
 }
 
-// The hours of a year by the counts of its slot. A slot that is not listed has none.
+/// The hours of a year by the counts of its slot. A slot that is not listed has none.
 pub fn hours_by(counts: Option<Counts>, year: u8) -> u16
     ensures { λ r. ⌜ r ≡ hoursBy counts year ⌝ }
 {
@@ -98,12 +99,13 @@ pub fn hours_by(counts: Option<Counts>, year: u8) -> u16
         Some(counts) => match year {
             RECENT => counts.recent,
             DISTANT => counts.distant,
-            _ => counts.ahead,
+            AHEAD => counts.ahead,
+            _ => 0,
         },
     }
 }
 
-// The locations that there can be prices of.
+/// The locations that there can be prices of.
 pub const RECORDED_LOCATIONS: u8 = 64;
 
 pub fn is_lawful_series(series: Series) -> bool
@@ -112,7 +114,7 @@ pub fn is_lawful_series(series: Series) -> bool
     is_lawful_slot(series.slot) && is_past_year(series.year) && series.location < RECORDED_LOCATIONS
 }
 
-// A price is within 200,000 cents either way.
+/// A price is within 200,000 cents either way.
 pub fn is_lawful_price(x: i32) -> bool
     ensures { λ r. ⌜ r ≡ lawfulPrice x ⌝ }
 {

@@ -1,4 +1,4 @@
-// Recorded hours that answer questions: the numbers, with the tables of what stands where.
+//! Recorded hours that answer questions: the numbers, with the tables of what stands where.
 ghost use Rattle.hours.specs.RecordedFormat.{recordsOf, countsIn, pricesIn};
 ghost use Rattle.hours.specs.RecordedTables.{tablesOf};
 ghost use Rattle.std.specs.Of.Vec.{vec-items};
@@ -22,7 +22,7 @@ pub struct Recorded {
 }
 
 impl Recorded {
-    // Numbers that the check refuses make recorded hours that list nothing: every count is 0, and no year has prices.
+    /// Numbers that the check refuses make recorded hours that list nothing: every count is 0, and no year has prices.
     pub fn new(numbers: Vec<i32>) -> Recorded
         ensures { λ r. ⌜ vec-items (r .numbers) ≡ vec-items numbers ⌝ }
     {
@@ -30,7 +30,7 @@ impl Recorded {
         Recorded { numbers, tables }
     }
 
-    // The counts of a slot, if it is listed.
+    /// The counts of a slot, if it is listed.
     pub fn counts(&self, slot: Slot) -> Option<Counts>
         ensures { λ r. ⌜ r ≡ countsIn (recordsOf (vec-items (now (self .entry) .numbers))) slot ⌝ }
     {
@@ -40,7 +40,7 @@ impl Recorded {
         tabled_counts(&self.tables, slot)
     }
 
-    // Whether a location has prices in a year of a slot.
+    /// Whether a location has prices in a year of a slot.
     pub fn has_year(&self, location: u8, slot: Slot, year: u8) -> bool
         ensures { λ r. ⌜ r ≡ isSome (pricesIn (recordsOf (vec-items (now (self .entry) .numbers))) location slot year) ⌝ }
     {

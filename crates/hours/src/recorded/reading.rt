@@ -1,4 +1,4 @@
-// The reading of recorded hours, one number after the other.
+//! The reading of recorded hours, one number after the other.
 ghost use Prim.Native.Nat.{ℕ, _^_, _<_};
 ghost use Rattle.hours.specs.RecordedFormat.{bothSections};
 ghost use Rattle.hours.specs.RecordedReading.{Good, Owes, Steps, resume};
@@ -13,25 +13,25 @@ use super::tables::Tables;
 use super::tables::admit_entry;
 use super::tables::admit_series;
 
-// The part of the numbers that is being read.
+/// The part of the numbers that is being read.
 #[derive(Clone, Copy)]
 pub enum Part {
-    // before the count of the first section
+    /// before the count of the first section
     Start,
     First,
     Second,
 }
 
-// How far the reading has come, but for the prices that the last entry still owes.
+/// How far the reading has come, but for the prices that the last entry still owes.
 #[derive(Drop)]
 pub struct Reading {
     part: Part,
-    // the entries of the section that are left, the one at hand among them
+    /// the entries of the section that are left, the one at hand among them
     left: u32,
-    // how many numbers of the entry at hand were read
+    /// how many numbers of the entry at hand were read
     at: usize,
     read: [i32; 6],
-    // the entries of both sections that were read
+    /// the entries of both sections that were read
     entries: u32,
 }
 
@@ -45,14 +45,14 @@ impl Reading {
         Reading { part: Part::Start, left: 0, at: 0, read: [0; 6], entries: 0 }
     }
 
-    // The line of a fault in the last entry that was begun: its prices are what is read after it.
+    /// The line of a fault in the last entry that was begun: its prices are what is read after it.
     pub fn last_line(&self) -> u32
         ensures { λ r. ⌜ r ≡ now (self .entry) .entries ⌝ }
     {
         self.entries
     }
 
-    // Takes in one number that is no price, and answers how many prices are to follow it; or refuses it, and answers the line.
+    /// Takes in one number that is no price, and answers how many prices are to follow it; or refuses it, and answers the line.
     pub fn step(&mut self, tables: &mut Tables, x: i32) -> Result<u16, u32>
         requires good { ⌜ Good (now self) ⌝ }
         requires sized { ⌜ Sized (now tables) ⌝ }
@@ -67,7 +67,7 @@ impl Reading {
         }
     }
 
-    // The count of the first section.
+    /// The count of the first section.
     fn start(&mut self, x: i32) -> Result<u16, u32>
         requires good { ⌜ Good (now self) ⌝ }
         requires part { ⌜ now self .part ≡ Part.Start ⌝ }
@@ -81,7 +81,7 @@ impl Reading {
         Ok(0)
     }
 
-    // The count of the second section.
+    /// The count of the second section.
     fn turn(&mut self, x: i32) -> Result<u16, u32>
         requires good { ⌜ Good (now self) ⌝ }
         requires part { ⌜ now self .part ≡ Part.First ⌝ }
@@ -96,7 +96,7 @@ impl Reading {
         Ok(0)
     }
 
-    // A number of the first section or, after its last entry, the count of the second.
+    /// A number of the first section or, after its last entry, the count of the second.
     fn first(&mut self, tables: &mut Tables, x: i32) -> Result<u16, u32>
         requires good { ⌜ Good (now self) ⌝ }
         requires part { ⌜ now self .part ≡ Part.First ⌝ }
@@ -127,7 +127,7 @@ impl Reading {
         }
     }
 
-    // A number of a head in the second section.
+    /// A number of a head in the second section.
     fn second(&mut self, tables: &mut Tables, x: i32) -> Result<u16, u32>
         requires good { ⌜ Good (now self) ⌝ }
         requires part { ⌜ now self .part ≡ Part.Second ⌝ }
@@ -158,7 +158,7 @@ impl Reading {
         }
     }
 
-    // After the last number, with so many prices owed: whether all was there, or the line where something lacks.
+    /// After the last number, with so many prices owed: whether all was there, or the line where something lacks.
     pub fn end(&self, owed: u16) -> Result<(), u32>
         requires good { ⌜ Good (now self) ⌝ }
         requires owes { ⌜ Owes owed (now self) ⌝ }

@@ -1,4 +1,4 @@
-// Recorded hours as an hour source.
+//! Recorded hours as an hour source.
 ghost use Rattle.hours.specs.RecordedFormat.{recordsOf, hoursIn, pricesIn};
 ghost use Rattle.std.specs.Of.Vec.{vec-items};
 use super::entry::RECORDED_LOCATIONS;
@@ -18,7 +18,7 @@ use crate::source::MOST_HOURS;
 pub impl HourSource for Recorded as RecordedHours {
     const LOCATIONS: u8 = RECORDED_LOCATIONS;
 
-    // A slot that is not listed has no hours, and a year that is not listed no prices.
+    /// A slot that is not listed has no hours, and a year that is not listed no prices.
     ghost locations = { 64 };
 
     ghost hours = { λ source slot year. hoursIn (recordsOf (vec-items (source .numbers))) slot year };
@@ -44,7 +44,7 @@ pub impl HourSource for Recorded as RecordedHours {
         Ok(self.numbers[span.start as usize + hour as usize])
     }
 
-    // All prices of the year stand in a row, so they are copied at once.
+    /// All prices of the year stand in a row, so they are copied at once.
     fn fill(
         &self,
         location: u8,

@@ -1,4 +1,4 @@
-// Where the prices of a year stand among the numbers.
+//! Where the prices of a year stand among the numbers.
 ghost use Prim.Native.Nat.{_+_, _≤_};
 ghost use Rattle.hours.specs.Questions.{yearOf};
 ghost use Rattle.hours.specs.RecordedFormat.{recordsOf, pricesIn};
@@ -23,7 +23,7 @@ use crate::period::is_lawful_slot;
 use crate::period::is_past_year;
 use crate::source::MOST_HOURS;
 
-// The first of the prices, and how many there are.
+/// The first of the prices, and how many there are.
 #[derive(Clone, Copy)]
 pub struct Span {
     pub start: u32,
@@ -50,7 +50,7 @@ impl Recorded {
     }
 }
 
-// Writes the prices to the front of the buffer.
+/// Writes the prices to the front of the buffer.
 pub fn copy_prices(prices: &[i32], buffer: &mut [i32; MOST_HOURS])
     requires { ⌜ length (now prices) ≤ 9000 ⌝ }
     ensures { λ _. ⌜ now (buffer .exit) ≡ now (prices .entry) ++ drop (length (now (prices .entry))) (now (buffer .entry)) ⌝ }

@@ -1,4 +1,4 @@
-// What is known of the entries before the one at hand, found by its number.
+//! What is known of the entries before the one at hand, found by its number.
 ghost use Prim.Native.Nat.{_+_, _^_, _<_};
 ghost use Rattle.hours.specs.Periods.{lawfulSlot};
 ghost use Rattle.hours.specs.RecordedEntries.{LawfulSeries, fitting, isNone};
@@ -13,18 +13,18 @@ use super::entry::Series;
 use super::entry::hours_by;
 use crate::period::Slot;
 
-// One more than the greatest number of a slot and of a series. The numbering leaves gaps: it asks for no list of the periods.
+/// One more than the greatest number of a slot and of a series. The numbering leaves gaps: it asks for no list of the periods.
 const SLOTS: usize = 338;
 
 const SERIES: usize = 43_264;
 
 #[derive(Drop)]
 pub struct Tables {
-    // the counts of each slot that is listed
+    /// the counts of each slot that is listed
     pub counts: [Option<Counts>; SLOTS],
-    // where the prices of each series start among all numbers, and 0 where it is not there
+    /// where the prices of each series start among all numbers, and 0 where it is not there
     pub starts: [u32; SERIES],
-    // where the entry at hand starts, once the second section has begun
+    /// where the entry at hand starts, once the second section has begun
     pub next: u32,
 }
 
@@ -68,7 +68,7 @@ pub fn start_of(tables: &Tables, series: Series) -> u32
     tables.starts[series_number(series)]
 }
 
-// Lists the counts of a slot, unless the slot is listed already.
+/// Lists the counts of a slot, unless the slot is listed already.
 pub fn admit_entry(tables: &mut Tables, entry: Entry) -> bool
     requires lawful { ⌜ lawfulSlot (entry .slot) ≡ true ⌝ }
     requires sized { ⌜ Sized (now tables) ⌝ }
@@ -87,7 +87,7 @@ pub fn admit_entry(tables: &mut Tables, entry: Entry) -> bool
     }
 }
 
-// Puts down where the prices of a series start, unless their count is not that of the slot, or the series is there already.
+/// Puts down where the prices of a series start, unless their count is not that of the slot, or the series is there already.
 pub fn admit_series(tables: &mut Tables, head: Head) -> bool
     requires lawful { ⌜ LawfulSeries (head .series) ⌝ }
     requires sized { ⌜ Sized (now tables) ⌝ }
