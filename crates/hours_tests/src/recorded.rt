@@ -1,9 +1,28 @@
 //! In most examples the first section lists one slot, month 1 on-peak, with 2 recent hours, 1 distant hour and 3 hours ahead:
 //! `1, 1, 1, 0, 2, 1, 3`. The first entry of the second section is then line 2.
+use hours::AHEAD;
+use hours::Counts;
+use hours::CountsDebug;
+use hours::CountsPartialEq;
+use hours::DISTANT;
+use hours::FaultDebug;
+use hours::FaultPartialEq;
+use hours::HourSource;
+use hours::MOST_HOURS;
+use hours::ON_PEAK;
+use hours::Period;
+use hours::RECENT;
+use hours::Recorded;
+use hours::RecordedHours;
+use hours::Slot;
 use hours::Unlawful;
 use hours::UnlawfulDebug;
 use hours::UnlawfulPartialEq;
 use hours::check_recorded;
+use hours::lacking_year;
+use hours::past_count;
+use hours::unknown_location;
+use hours::unlawful_question;
 use std::test::*;
 
 /// Numbers, and the line at which they are refused.
@@ -108,4 +127,62 @@ fn lawful_numbers_pass() -> Result<(), Fail> {
         check_eq(check_recorded(numbers), Ok(()))?;
     }
     Ok(())
+}
+
+#[test]
+fn too_many_numbers_are_refused_before_all_else(rt: LibcRuntime) -> Result<(), Fail> {
+    let twos = vec![in rt.alloc(); 2; 1_000_001]?;
+    check_eq(check_recorded(twos.as_slice()), Err(Unlawful { line: 0 }))?;
+    check_eq(check_recorded(&twos.as_slice()[1..]), Err(Unlawful { line: 1 }))
+}
+
+const FIRST: Slot = Slot {
+    period: Period { first: 1, months: 1 },
+    class: ON_PEAK,
+};
+
+const SECOND: Slot = Slot {
+    period: Period { first: 2, months: 1 },
+    class: ON_PEAK,
+};
+
+/// The first slot is listed; location 5 has its recent year.
+const EXAMPLE: [i32; 16] = [1, 1, 1, 0, 2, 1, 3, 1, 5, 1, 1, 0, 0, 2, 100, -100];
+
+#[test]
+fn what_is_listed_is_answered(rt: LibcRuntime) -> Result<(), Fail> {
+    let recorded = Recorded::new(EXAMPLE.to_vec(rt.alloc())?);
+    check_eq(recorded.counts(FIRST), Some(Counts { recent: 2, distant: 1, ahead: 3 }))?;
+    check(recorded.counts(SECOND).is_none())?;
+    check(recorded.has_year(5, FIRST, RECENT) && !recorded.has_year(5, FIRST, DISTANT))?;
+    check_eq(recorded.count(FIRST, AHEAD), Ok(3))?;
+    check_eq(recorded.count(SECOND, RECENT), Ok(0))?;
+    check_eq(recorded.mcc(5, FIRST, RECENT, 0), Ok(100))?;
+    check_eq(recorded.mcc(5, FIRST, RECENT, 1), Ok(-100))
+}
+
+#[test]
+fn faults_come_in_their_order(rt: LibcRuntime) -> Result<(), Fail> {
+    let recorded = Recorded::new(EXAMPLE.to_vec(rt.alloc())?);
+    check_eq(recorded.mcc(64, FIRST, AHEAD, 9), Err(unlawful_question()))?;
+    check_eq(recorded.mcc(64, FIRST, DISTANT, 9), Err(unknown_location(64)))?;
+    check_eq(recorded.mcc(5, FIRST, DISTANT, 9), Err(lacking_year(5, DISTANT)))?;
+    check_eq(recorded.mcc(5, FIRST, RECENT, 2), Err(past_count(5, RECENT)))
+}
+
+#[test]
+fn a_year_is_copied_at_once(rt: LibcRuntime) -> Result<(), Fail> {
+    let recorded = Recorded::new(EXAMPLE.to_vec(rt.alloc())?);
+    let mut buffer = [7; MOST_HOURS];
+    check_eq(recorded.fill(5, FIRST, RECENT, &mut buffer), Ok(2))?;
+    check(buffer[0] == 100 && buffer[1] == -100 && buffer[2] == 7)
+}
+
+#[test]
+fn refused_numbers_list_nothing(rt: LibcRuntime) -> Result<(), Fail> {
+    let mut numbers = EXAMPLE.to_vec(rt.alloc())?;
+    numbers.push(0)?;
+    let recorded = Recorded::new(numbers);
+    check(recorded.counts(FIRST).is_none() && !recorded.has_year(5, FIRST, RECENT))?;
+    check_eq(recorded.count(FIRST, AHEAD), Ok(0))
 }
