@@ -56,8 +56,8 @@ lists = record {
   counts = λ r slot. countsAmong (r .listed) slot;
   list = λ r e. record { listed = e ∷ r .listed; years = r .years };
   has = λ r series. isSome (pricesAmong (r .years) series);
-  put = λ r h prices. record { listed = r .listed; years = record { series = h .series; prices = prices } ∷ r .years }
-  }
+  put = λ r h prices. record { listed = r .listed; years = record { series = h .series; prices = prices } ∷ r .years };
+}
 
 abbrev pub noRecords : Records
 noRecords = record { listed = []; years = [] }

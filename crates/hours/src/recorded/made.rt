@@ -44,7 +44,11 @@ impl Recorded {
     pub fn has_year(&self, location: u8, slot: Slot, year: u8) -> bool
         ensures { λ r. ⌜ r ≡ isSome (pricesIn (recordsOf (vec-items (now (self .entry) .numbers))) location slot year) ⌝ }
     {
-        let series = Series { location, slot, year };
+        let series = Series {
+            location,
+            slot,
+            year,
+        };
         if !is_lawful_series(series) {
             return false;
         }

@@ -42,7 +42,13 @@ impl Reading {
         ensures first { λ r. ⌜ r .entries ≡ 0 ⌝ }
         ensures whole { λ r. ⌜ ((t : Tables) (xs : List ℤ) → resume 0 r t xs ≡ bothSections inTables t xs) ⌝ }
     {
-        Reading { part: Part::Start, left: 0, at: 0, read: [0; 6], entries: 0 }
+        Reading {
+            part: Part::Start,
+            left: 0,
+            at: 0,
+            read: [0; 6],
+            entries: 0,
+        }
     }
 
     /// The line of a fault in the last entry that was begun: its prices are what is read after it.
@@ -171,10 +177,18 @@ impl Reading {
         match self.part {
             Part::Start => Err(0),
             Part::First => {
-                if self.left == 0 { Err(0) } else { Err(self.entries + 1) }
+                if self.left == 0 {
+                    Err(0)
+                } else {
+                    Err(self.entries + 1)
+                }
             }
             Part::Second => {
-                if self.left == 0 { Ok(()) } else { Err(self.entries + 1) }
+                if self.left == 0 {
+                    Ok(())
+                } else {
+                    Err(self.entries + 1)
+                }
             }
         }
     }

@@ -54,7 +54,10 @@ pub impl HourSource for Recorded as RecordedHours {
     ) -> Result<u16, Fault> {
         let span = self.span(location, slot, year)?;
         let start = span.start as usize;
-        copy_prices(&self.numbers.as_slice()[start..start + span.hours as usize], buffer);
+        copy_prices(
+            &self.numbers.as_slice()[start..start + span.hours as usize],
+            buffer,
+        );
         Ok(span.hours)
     }
 }

@@ -41,7 +41,12 @@ impl Recorded {
         if RECORDED_LOCATIONS <= location {
             return Err(unknown_location(location));
         }
-        let start = start_of(&self.tables, Series { location, slot, year });
+        let series = Series {
+            location,
+            slot,
+            year,
+        };
+        let start = start_of(&self.tables, series);
         if start == 0 {
             return Err(lacking_year(location, year));
         }

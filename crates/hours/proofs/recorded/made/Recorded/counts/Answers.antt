@@ -10,7 +10,7 @@ pub tabled-counts-requires : need.tabled-counts-requires
 tabled-counts-requires c κs =
     record {
       lawful = sym (c .if-not-is-lawful-slot .ensures tt);
-      sized = tables-sized (vec-items (c .args .self .now .numbers)) (c .args .self .now .tables) (c .args .self .now .made)
+      sized = tables-sized (vec-items (c .args .self .now .numbers)) (c .args .self .now .tables) (c .args .self .now .made);
     }
 
 pub returns : need.returns

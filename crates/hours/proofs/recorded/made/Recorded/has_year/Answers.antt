@@ -19,7 +19,7 @@ pub start-of-requires : need.start-of-requires
 start-of-requires c κs =
     record {
       lawful = series-lawful (seriesOf (c .args .location) (c .args .slot) (c .args .year)) (sym (c .if-not-is-lawful-series .ensures tt));
-      sized = tables-sized (vec-items (c .args .self .now .numbers)) (c .args .self .now .tables) (c .args .self .now .made)
+      sized = tables-sized (vec-items (c .args .self .now .numbers)) (c .args .self .now .tables) (c .args .self .now .made);
     }
 
 pub returns : need.returns

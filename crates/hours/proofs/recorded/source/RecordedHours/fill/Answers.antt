@@ -19,6 +19,6 @@ returns c =
     let within : span .start + span .hours ≤ length xs = subst (λ (n : ℕ). span .start + span .hours ≤ n) (c .args .self .now .numbers .ok .0) (e .within .0) in
     let many : span .start + span .hours - span .start ≡ span .hours = omega arith in
     let these : take (span .start + span .hours - span .start) (drop (span .start) (c .as-slice .result .now)) ≡ take (span .hours) (drop (span .start) xs) =
-        ap (λ (n : ℕ). take n (drop (span .start) (c .as-slice .result .now))) many ∙ ap (λ (ys : List ℤ). take (span .hours) (drop (span .start) ys)) (c .as-slice .ensures .value) in
+    ap (λ (n : ℕ). take n (drop (span .start) (c .as-slice .result .now))) many ∙ ap (λ (ys : List ℤ). take (span .hours) (drop (span .start) ys)) (c .as-slice .ensures .value) in
     let a = fill-answered xs _ (span .start) (span .hours) (c .args .buffer .now) (c .copy-prices .last .buffer) year within (e .prices) these (c .copy-prices .ensures) in
     record { answer = a .0; after = a .1 }
