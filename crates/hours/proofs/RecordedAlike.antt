@@ -2,14 +2,14 @@
 use mathlib.Core.Path.{_≡_, refl, sym, ap, _∙_, subst}
 use mathlib.Core.List.{List, [], _∷_, _++_}
 use mathlib.Core.Bool.{Bool, true, false, cond}
-use Prim.Native.Nat.{ℕ, zero, suc, _+_, _<_, _≤_}
+use Prim.Native.Nat.{ℕ, zero, suc, _+_, _<_}
 use native.Mathlib.Omega.{arith}
 use lib.Dec.{leb, ltb}
 use lib.IntN.{ℤ, pos, natAbs}
 use lib.Signed.{leZ}
-use lib.ListN.{length, take, drop, getD}
+use lib.ListN.{length, take, drop}
 use Rattle.std.proofs.shelf.Lists.{drop-at, drop-drop}
-use Rattle.std.proofs.shelf.Tests.{cond-true, le-leb, lt-ltb, le-ltb}
+use Rattle.std.proofs.shelf.Tests.{lt-ltb, le-ltb}
 use Rattle.std.proofs.shelf.Ways.{tells}
 use Rattle.std.specs.Options.{isSome}
 use Rattle.std.specs.declared.option.Option.{Option}
@@ -21,8 +21,8 @@ use Rattle.hours.specs.declared.recorded.entry.Entry.{Entry}
 use Rattle.hours.specs.declared.recorded.entry.Head.{Head}
 use Rattle.hours.specs.declared.recorded.tables.Tables.{Tables}
 use Rattle.hours.specs.RecordedEntries.{andThen, entryFrom, headFrom, fitting, hoursBy, lawfulPrice, LawfulSeries}
-use Rattle.hours.specs.RecordedFormat.{andThenOk, orRefused, Memory, Left, Prices, Taken, Records, lists, noRecords, countsAmong, pricesAmong, unlisted, entryAt, readEntries, readPrices, headAt, pricesAfter, yearAt, readYears, nothingMore, secondSection, onward, bothSections, records, checked, orInstead, recordsOf}
-use Rattle.hours.specs.RecordedTables.{tabledCounts, startOf, hasStart, withEntry, withSeries, inTables, emptyTables, tablesRead, tablesOf}
+use Rattle.hours.specs.RecordedFormat.{andThenOk, orRefused, Prices, Taken, Records, lists, noRecords, countsAmong, pricesAmong, unlisted, entryAt, readEntries, readPrices, headAt, pricesAfter, yearAt, readYears, nothingMore, secondSection, onward, bothSections, records, checked, orInstead, recordsOf}
+use Rattle.hours.specs.RecordedTables.{tabledCounts, hasStart, withEntry, withSeries, inTables, emptyTables, tablesRead, tablesOf}
 use Rattle.hours.proofs.RecordedLawful.{not-none, through, passed, entry-lawful, entry-few, head-lawful}
 use Rattle.hours.proofs.RecordedTables.{Stands, Near, Same, same-none, same-entry, same-year}
 

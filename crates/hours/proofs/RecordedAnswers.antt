@@ -1,7 +1,7 @@
 -- What recorded hours answer, by their tables and by their records; and the laws of an hour source.
-use mathlib.Core.Path.{_≡_, refl, sym, ap, _∙_, subst}
+use mathlib.Core.Path.{_≡_, refl, sym, ap, _∙_}
 use mathlib.Core.List.{List, _++_}
-use mathlib.Core.Bool.{Bool, true, false, cond, _&&_}
+use mathlib.Core.Bool.{Bool, true, false, _&&_}
 use Prim.Native.Nat.{ℕ, _+_, _-_, _<_, _≤_, min}
 use native.Mathlib.Omega.{arith}
 use lib.Dec.{ltb}
@@ -29,7 +29,7 @@ use Rattle.hours.specs.RecordedEntries.{hoursBy, lawfulPrice, LawfulSeries}
 use Rattle.hours.specs.RecordedFormat.{recordsOf, countsIn, hoursIn, pricesIn}
 use Rattle.hours.specs.RecordedTables.{tabledCounts, startOf, hasStart, tablesOf, Sized}
 use Rattle.hours.proofs.RecordedLawful.{not-none}
-use Rattle.hours.proofs.RecordedTables.{Stands, Near, Same}
+use Rattle.hours.proofs.RecordedTables.{Stands, Same}
 use Rattle.hours.proofs.RecordedAlike.{kept-alike}
 
 abbrev pub seriesOf : ℕ → Slot → ℕ → Series

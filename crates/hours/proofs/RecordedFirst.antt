@@ -16,8 +16,7 @@ use Rattle.std.specs.declared.result.Result.the-variants.{Ok, Err}
 use Rattle.hours.specs.declared.recorded.entry.Counts.{Counts}
 use Rattle.hours.specs.declared.recorded.entry.Entry.{Entry}
 use Rattle.hours.specs.declared.recorded.tables.Tables.{Tables}
-use Rattle.hours.specs.declared.recorded.reading.Part.{Part}
-use Rattle.hours.specs.declared.recorded.reading.Part.the-variants.{Start, First, Second}
+use Rattle.hours.specs.declared.recorded.reading.Part.the-variants.{Start, First}
 use Rattle.hours.specs.declared.recorded.reading.Reading.{Reading}
 use Rattle.hours.specs.RecordedEntries.{andThen, entryFrom, isNone}
 use Rattle.hours.specs.RecordedFormat.{andThenOk, orRefused, Memory, Left, unlisted, entryAt, readEntries, onward}

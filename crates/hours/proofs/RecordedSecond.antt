@@ -6,7 +6,7 @@ use Prim.Native.Nat.{ℕ, zero, suc, _+_, _-_, _<_, _≤_}
 use native.Mathlib.Omega.{arith}
 use native.Mathlib.Numerals.{sub-one}
 use lib.IntN.{ℤ}
-use lib.ListN.{length, take, drop, set}
+use lib.ListN.{length, take, set}
 use Rattle.std.proofs.shelf.Lists.{take-at, drop-at, length-set}
 use Rattle.std.proofs.shelf.Tests.{lt-leb}
 use Rattle.std.specs.declared.option.Option.{Option}
@@ -15,13 +15,12 @@ use Rattle.std.specs.declared.result.Result.{Result}
 use Rattle.std.specs.declared.result.Result.the-variants.{Ok, Err}
 use Rattle.hours.specs.declared.recorded.entry.Head.{Head}
 use Rattle.hours.specs.declared.recorded.tables.Tables.{Tables}
-use Rattle.hours.specs.declared.recorded.reading.Part.{Part}
-use Rattle.hours.specs.declared.recorded.reading.Part.the-variants.{Start, First, Second}
+use Rattle.hours.specs.declared.recorded.reading.Part.the-variants.{Start, Second}
 use Rattle.hours.specs.declared.recorded.reading.Reading.{Reading}
 use Rattle.hours.specs.RecordedEntries.{andThen, headFrom, fitting, lawfulPrice}
-use Rattle.hours.specs.RecordedFormat.{andThenOk, orRefused, Memory, Left, Prices, Taken, readPrices, headAt, pricesAfter, yearAt, readYears, nothingMore}
+use Rattle.hours.specs.RecordedFormat.{andThenOk, orRefused, Memory, Left, Prices, Taken, readPrices, pricesAfter, yearAt, readYears, nothingMore}
 use Rattle.hours.specs.RecordedTables.{tabledCounts, hasStart, withSeries, inTables, Sized}
-use Rattle.hours.specs.RecordedReading.{yearsLeft, pricesLeft, resume, resumeIn, Good, Owes, Steps}
+use Rattle.hours.specs.RecordedReading.{yearsLeft, pricesLeft, resume, Good, Owes, Steps}
 use Rattle.hours.proofs.RecordedSteps.{filled, six-there, short-of-six, in-part, elsewhere, kept-on}
 
 -- one entry of the section

@@ -10,7 +10,7 @@ use lib.ListN.{length, take, set}
 use Rattle.std.proofs.shelf.Lists.{take-more-set, append-assoc, append-nil, take-all, length-append, length-set, length-take-le}
 use Rattle.std.proofs.shelf.Tests.{le-leb}
 use Rattle.std.specs.declared.result.Result.{Result}
-use Rattle.std.specs.declared.result.Result.the-variants.{Ok, Err}
+use Rattle.std.specs.declared.result.Result.the-variants.{Ok}
 use Rattle.hours.specs.declared.recorded.tables.Tables.{Tables}
 use Rattle.hours.specs.declared.recorded.reading.Part.{Part}
 use Rattle.hours.specs.declared.recorded.reading.Part.the-variants.{Start, First, Second}

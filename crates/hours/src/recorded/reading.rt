@@ -1,5 +1,5 @@
 //! The reading of recorded hours, one number after the other.
-ghost use Prim.Native.Nat.{ℕ, _^_, _<_};
+ghost use Prim.Native.Nat.{_^_, _<_};
 ghost use Rattle.hours.specs.RecordedFormat.{bothSections};
 ghost use Rattle.hours.specs.RecordedReading.{Good, Owes, Steps, resume};
 ghost use Rattle.hours.specs.RecordedTables.{Sized, inTables, cameOut};

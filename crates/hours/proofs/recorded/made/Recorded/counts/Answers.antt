@@ -1,4 +1,4 @@
-use mathlib.Core.Path.{_≡_, sym, ap, _∙_}
+use mathlib.Core.Path.{sym, _∙_}
 use Rattle.std.specs.Of.Vec.{vec-items}
 use Rattle.hours.proofs.RecordedAnswers.{tables-sized, counts-found, counts-unlawful}
 use Rattle.hours.proofs.recorded.made.Recorded.counts.Needs as need
