@@ -18,7 +18,9 @@ use super::tables::admit_series;
 pub enum Part {
     /// before the count of the first section
     Start,
+    /// in the first section, or before the count of the second
     First,
+    /// in the second section, or behind it
     Second,
 }
 
@@ -28,10 +30,10 @@ pub struct Reading {
     part: Part,
     /// the entries of the section that are left, the one at hand among them
     left: u32,
-    /// how many numbers of the entry at hand were read
+    /// how many numbers of the entry at hand were read, and these numbers
     at: usize,
     read: [i32; 6],
-    /// the entries of both sections that were read
+    /// the entries of both sections that were read, the last of them up to its prices
     entries: u32,
 }
 
@@ -51,7 +53,7 @@ impl Reading {
         }
     }
 
-    /// The line of a fault in the last entry that was begun: its prices are what is read after it.
+    /// The line of the last entry that was read, whose prices may be owed.
     pub fn last_line(&self) -> u32
         ensures { λ r. ⌜ r ≡ now (self .entry) .entries ⌝ }
     {

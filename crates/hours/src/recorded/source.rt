@@ -18,9 +18,9 @@ use crate::source::MOST_HOURS;
 pub impl HourSource for Recorded as RecordedHours {
     const LOCATIONS: u8 = RECORDED_LOCATIONS;
 
-    /// A slot that is not listed has no hours, and a year that is not listed no prices.
     ghost locations = { 64 };
 
+    /// A slot that is not listed has no hours, and a year that is not listed has no prices.
     ghost hours = { λ source slot year. hoursIn (recordsOf (vec-items (source .numbers))) slot year };
 
     ghost prices = { λ source location slot year. pricesIn (recordsOf (vec-items (source .numbers))) location slot year };
