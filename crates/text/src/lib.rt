@@ -2,12 +2,12 @@
 //! A text is bytes: nothing here asks that they are UTF-8.
 mod digits;
 mod pieces;
-
+mod words;
 
 pub use digits::Misread;
 pub use digits::i32_of;
 pub use digits::size_of;
 pub use pieces::Stop;
 pub use pieces::run;
-
-
+pub use words::BadWord;
+pub use words::numbers;
