@@ -1,3 +1,4 @@
 pub mod Pieces
 pub mod Digits
 pub mod Words
+pub mod Laws
