@@ -1,11 +1,15 @@
--- What holds of the words of every text. Assumes nothing.
+-- What holds of the words of every text, and of every number of 32 bits. Assumes nothing.
 use mathlib.Core.Path.{_≡_}
-use mathlib.Core.Bool.{Bool, not, _||_}
+use mathlib.Core.Bool.{Bool, true, not, _||_}
 use mathlib.Core.List.{List, []}
 use Prim.Native.Nat.{ℕ, _-_}
+use lib.IntN.{ℤ}
 use lib.ListN.{length, getD, take, drop}
+use Rattle.std.specs.declared.result.Result.the-variants.{Ok}
+use Rattle.std.specs.Written.{signed}
 use Rattle.std.specs.shelf.Lists.{All, joined, kept-by}
 use Rattle.text.specs.declared.pieces.Stop.the-variants.{Line, Blank}
+use Rattle.text.specs.Digits.{numberOf, ranged, signed32}
 use Rattle.text.specs.Pieces.{stops, split}
 use Rattle.text.specs.Words.{Word, wordsOf}
 
@@ -24,3 +28,7 @@ ofWord b = not (stops Line b || stops Blank b)
 -- no byte of a word is lost, and none is told twice: in their order, the words have them all
 abbrev pub Words-are-all : Type 0
 Words-are-all = (text : List ℕ) → joined (λ w. w .bytes) (wordsOf text) ≡ kept-by ofWord text
+
+-- what is printed of a number of 32 bits is read as that number
+abbrev pub Numbers-read-back : Type 0
+Numbers-read-back = (z : ℤ) → signed32 z ≡ true → ranged signed32 (numberOf (signed z)) ≡ Ok z

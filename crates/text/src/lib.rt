@@ -8,6 +8,7 @@ mod words;
 pub use digits::Misread;
 pub use digits::i32_of;
 pub use digits::size_of;
+pub use laws::numbers_read_back;
 pub use laws::words_are_all;
 pub use laws::words_stand;
 pub use pieces::Stop;
