@@ -1,0 +1,13 @@
+pub mod Bounds
+pub mod Periods
+pub mod Faults
+pub mod Questions
+pub mod Lookups
+pub mod Means
+pub mod StandIns
+pub mod Refusals
+pub mod RecordedEntries
+pub mod RecordedFormat
+pub mod RecordedTables
+pub mod RecordedReading
+pub mod RecordedSpans
