@@ -1,2 +1,5 @@
 pub mod Keys
 pub mod BookFaults
+pub mod Results
+pub mod Postings
+pub mod Bands

@@ -1,10 +1,16 @@
 // Price books: for each key, a path in the hours of a slot, a price or the reason why there is none.
 //
 // `book` has the interface; `posted`, `band` and `history` are the books that ship.
+mod band;
 mod book;
 mod fault;
 mod key;
+mod posted;
+mod row;
 
+pub use band::Band;
+pub use band::BandBook;
+pub use band::RefusedBand;
 pub use book::Book;
 pub use fault::no_hours;
 pub use fault::not_posted;
@@ -20,3 +26,10 @@ pub use key::PathPartialEq;
 pub use key::is_lawful_key;
 pub use key::is_lawful_path;
 pub use key::same_key;
+pub use posted::Posted;
+pub use posted::PostedBook;
+pub use posted::RefusedPosting;
+pub use row::Row;
+pub use row::RowDebug;
+pub use row::RowEq;
+pub use row::RowPartialEq;
