@@ -1,1 +1,3 @@
 pub mod Listings
+pub mod Counts
+pub mod Least

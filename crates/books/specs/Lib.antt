@@ -3,3 +3,4 @@ pub mod BookFaults
 pub mod Results
 pub mod Postings
 pub mod Bands
+pub mod Percentiles

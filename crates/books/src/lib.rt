@@ -5,6 +5,7 @@ mod band;
 mod book;
 mod fault;
 mod key;
+mod percentile;
 mod posted;
 mod row;
 
@@ -26,6 +27,7 @@ pub use key::PathPartialEq;
 pub use key::is_lawful_key;
 pub use key::is_lawful_path;
 pub use key::same_key;
+pub use percentile::percentile_of;
 pub use posted::Posted;
 pub use posted::PostedBook;
 pub use posted::RefusedPosting;
