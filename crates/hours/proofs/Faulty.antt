@@ -11,7 +11,6 @@ use Rattle.std.specs.declared.option.Option.the-variants.{Some, None}
 use Rattle.hours.specs.Means.{firstAtFault}
 
 module _ {R : Type 0} (fault : List R → R → Bool) (rows : List R) (i : ℕ) where
-
   -- the row at hand is at fault
   pub fault-here : (d : R) → i < length rows → true ≡ fault (take i rows) (getD rows i d) → Some (i + 1) ≡ firstAtFault fault (take i rows) (drop i rows)
   fault-here d below bad =

@@ -10,7 +10,6 @@ use Rattle.std.specs.declared.option.Option.the-variants.{Some, None}
 use Rattle.hours.specs.Lookups.{first}
 
 module _ {R : Type 0} (p : R → Bool) (rows : List R) (i : ℕ) where
-
   -- the row at hand passes
   pub first-here : (d : R) → i < length rows → true ≡ p (getD rows i d) → Some (getD rows i d) ≡ first p (drop i rows)
   first-here d below passes =

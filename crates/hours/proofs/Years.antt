@@ -1,6 +1,6 @@
 -- What the laws of a source give for a year that is there, and a year written hour by hour.
 use Prim.Native.Nat.{ℕ, _+_, _<_, _≤_}
-use mathlib.Core.Path.{_≡_, refl, sym, ap, _∙_}
+use mathlib.Core.Path.{_≡_, refl, sym, ap, subst, _∙_}
 use mathlib.Core.Bool.{Bool, true, false, cond, _&&_}
 use mathlib.Core.List.{List, [], _∷_, _++_}
 use native.Mathlib.Omega.{arith}
@@ -8,7 +8,7 @@ use lib.Dec.{ltb, leb}
 use lib.IntN.{ℤ, pos}
 use lib.ListN.{length, getD, set, take, drop}
 use Rattle.std.proofs.shelf.Lists.{set-at, take-more, drop-more, append-assoc, length-take-le, take-all}
-use Rattle.std.proofs.shelf.Tests.{and-parts, ltb-true, leb-true, le-leb, lt-ltb}
+use Rattle.std.proofs.shelf.Tests.{and-parts, ltb-true, leb-true, le-leb, lt-ltb, le-ltb}
 use Rattle.std.proofs.shelf.Ways.{tells}
 use Rattle.std.specs.declared.option.Option.{Option}
 use Rattle.std.specs.declared.option.Option.the-variants.{Some, None}
@@ -18,7 +18,8 @@ use Rattle.hours.specs.declared.fault.Fault.{Fault}
 use Rattle.hours.specs.declared.period.Slot.{Slot}
 use Rattle.hours.specs.Faults.{unlawfulQuestion, unknownLocation, lackingYear, pastCount}
 use Rattle.hours.specs.Periods.{lawfulSlot, lawfulYear, pastYear}
-use Rattle.hours.specs.Questions.{counted, present, yearOf, hourOf}
+use Rattle.hours.specs.Bounds.{Within}
+use Rattle.hours.specs.Questions.{counted, present, yearOf, hourOf, priced}
 
 -- two answers that cannot be one
 pub clash : {T E A : Type 0} (x : T) (e : E) → _≡_ {A = Result T E} (Ok x) (Err e) → A
@@ -37,9 +38,11 @@ asked locations prices l s y zs e = lawful (lawfulSlot s && pastYear y) refl e
     some : (o : Option (List ℤ)) → present o l y ≡ Ok zs → o ≡ Some zs
     some None q = clash zs (lackingYear l y) (sym q)
     some (Some ws) q = cc
+
     known : (b : Bool) → ltb l locations ≡ b → (lawfulSlot s && pastYear y) ≡ true → cond b (present (prices l s y) l y) (Err (unknownLocation l)) ≡ Ok zs → Asked locations prices l s y zs
     known false k a q = clash zs (unknownLocation l) (sym q)
     known true k a q = record { slot = and-parts (lawfulSlot s) (pastYear y) a .0; year = and-parts (lawfulSlot s) (pastYear y) a .1; known = ltb-true l locations k; there = some (prices l s y) q }
+
     lawful : (b : Bool) → (lawfulSlot s && pastYear y) ≡ b → cond b (cond (ltb l locations) (present (prices l s y) l y) (Err (unknownLocation l))) (Err unlawfulQuestion) ≡ Ok zs → Asked locations prices l s y zs
     lawful false k q = clash zs unlawfulQuestion (sym q)
     lawful true k q = known (ltb l locations) refl k q
@@ -102,3 +105,24 @@ one-more zs front buffer h z below room same value =
     ∙ ap (λ (w : ℤ). take h zs ++ w ∷ drop (h + 1) front) value
     ∙ sym (append-assoc (take h zs) (getD zs h (pos 0) ∷ []) (drop (h + 1) front))
     ∙ ap (λ (t : List ℤ). t ++ drop (h + 1) front) (sym (take-more zs h (pos 0) below))
+
+-- a lawful question at a known location is answered by the location's year
+pub asked-well : (locations : ℕ) (prices : ℕ → Slot → ℕ → Option (List ℤ)) (l : ℕ) (s : Slot) (y : ℕ) → true ≡ lawfulSlot s → true ≡ pastYear y → l < locations → yearOf locations prices l s y ≡ present (prices l s y) l y
+asked-well locations prices l s y lawful past known =
+    ap (λ (b : Bool). cond (b && pastYear y) (cond (ltb l locations) (present (prices l s y) l y) (Err (unknownLocation l))) (Err unlawfulQuestion)) (sym lawful)
+    ∙ ap (λ (b : Bool). cond b (cond (ltb l locations) (present (prices l s y) l y) (Err (unknownLocation l))) (Err unlawfulQuestion)) (sym past)
+    ∙ ap (λ (b : Bool). cond b (present (prices l s y) l y) (Err (unknownLocation l))) (lt-ltb l locations known)
+
+-- an hour of a year that is there
+pub hour-below : (zs : List ℤ) (l y h : ℕ) → h < length zs → hourOf (Ok zs) l y h ≡ Ok (getD zs h (pos 0))
+hour-below zs l y h below = ap (λ (b : Bool). cond b (Ok (getD zs h (pos 0))) (Err (pastCount l y))) (lt-ltb h (length zs) below)
+
+pub hour-past : (zs : List ℤ) (l y h : ℕ) → length zs ≤ h → hourOf (Ok zs) l y h ≡ Err (pastCount l y)
+hour-past zs l y h past = ap (λ (b : Bool). cond b (Ok (getD zs h (pos 0))) (Err (pastCount l y))) (le-ltb h (length zs) past)
+
+-- a price that is answered is within the bound
+pub priced-small : (locations : ℕ) (prices : ℕ → Slot → ℕ → Option (List ℤ)) → ((l : ℕ) (s : Slot) (y : ℕ) (zs : List ℤ) (h : ℕ) → prices l s y ≡ Some zs → Within 200000 (getD zs h (pos 0))) →
+    (l : ℕ) (s : Slot) (y h : ℕ) (z : ℤ) → Ok z ≡ priced locations prices l s y h → Within 200000 z
+priced-small locations prices small l s y h z e =
+    let a = hour-there (yearOf locations prices l s y) l y h z e in
+    subst (Within 200000) (sym (a .3)) (small l s y (a .0) h (asked locations prices l s y (a .0) (a .1) .there))

@@ -4,4 +4,5 @@ pub mod Faults
 pub mod Questions
 pub mod Lookups
 pub mod Means
+pub mod StandIns
 pub mod Refusals

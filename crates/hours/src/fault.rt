@@ -1,8 +1,8 @@
-// Why a question has no answer.
+//! Why a question has no answer.
 ghost use Rattle.hours.specs.Faults.{layerNumber, causeNumber, unlawfulQuestion, unknownLocation, lackingYear, pastCount};
 ghost use mathlib.Core.Path.{_≡_};
 
-// The part that found the fault.
+/// The part that found the fault.
 #[derive(Clone, Copy, PartialEq, Eq, Debug)]
 pub enum Layer {
     Hours,
@@ -11,21 +11,21 @@ pub enum Layer {
 
 #[derive(Clone, Copy, PartialEq, Eq, Debug)]
 pub enum Cause {
-    // a period, class or year, or a whole key, that there is none of
+    /// a period, class or year, or a whole key, that there is none of
     Unlawful,
-    // a key that a posted book does not list
+    /// a key that a posted book does not list
     NotPosted,
-    // a location that the source does not know
+    /// a location that the source does not know
     UnknownLocation,
-    // a location with no prices in that year
+    /// a location with no prices in that year
     LackingYear,
-    // a year, or what lies ahead, without hours
+    /// a year, or what lies ahead, without hours
     NoHours,
-    // an hour past the last one of its year
+    /// an hour past the last one of its year
     PastCount,
 }
 
-// What went wrong, and where: the location and the year are 0 where the cause has none.
+/// What went wrong, and where: the location and the year are 0 where the cause has none.
 #[derive(Clone, Copy, PartialEq, Eq, Debug)]
 pub struct Fault {
     pub layer: Layer,

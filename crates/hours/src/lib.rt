@@ -1,13 +1,19 @@
-// Hour sources: for each period and class, how many hours two past years and the period ahead have,
-// and for each location the congestion price of every hour of a past year.
-//
-// `source` has the interface; `average`, `recorded` and `proxy` are the sources that ship.
+//! Hour sources: for each period and class, how many hours two past years and the period ahead have,
+//! and for each location the congestion price of every hour of a past year.
+//!
+//! `source` has the interface; `average`, `recorded` and `proxy` are the sources that ship.
+mod average;
+mod average_hours;
 mod fault;
 mod period;
+mod proxy;
 mod rows;
 mod source;
 mod unlawful;
 
+pub use average::Average;
+pub use average::RefusedRows;
+pub use average_hours::AverageHours;
 pub use fault::Cause;
 pub use fault::CauseDebug;
 pub use fault::CauseEq;
@@ -45,6 +51,17 @@ pub use period::is_lawful_slot;
 pub use period::is_lawful_year;
 pub use period::is_past_year;
 pub use period::same_slot;
+pub use proxy::Proxy;
+pub use proxy::ProxyHours;
+pub use proxy::stand_in_for_five_and_minus_six;
+pub use rows::CountRow;
+pub use rows::CountRowDebug;
+pub use rows::CountRowEq;
+pub use rows::CountRowPartialEq;
+pub use rows::MeanRow;
+pub use rows::MeanRowDebug;
+pub use rows::MeanRowEq;
+pub use rows::MeanRowPartialEq;
 pub use source::HourSource;
 pub use source::MOST_HOURS;
 pub use unlawful::Unlawful;

@@ -1,4 +1,4 @@
-// The rows that average hours are made of, which of them are lawful, and what they say.
+//! The rows that average hours are made of, which of them are lawful, and what they say.
 ghost use Prim.Native.Nat.{_≤_};
 ghost use Rattle.hours.specs.Bounds.{within};
 ghost use Rattle.hours.specs.Means.{hoursIn, rowOf, rowsCount, isMeanOf, meanOf, lawfulCount, lawfulMean, countAtFault, meanAtFault, firstAtFault, rowsRefusal};
@@ -17,7 +17,7 @@ use super::period::is_lawful_slot;
 use super::period::is_past_year;
 use super::period::same_slot;
 
-// How many hours a slot has in the recent year, in the distant year and ahead.
+/// How many hours a slot has in the recent year, in the distant year and ahead.
 #[derive(Clone, Copy, PartialEq, Eq, Debug)]
 pub struct CountRow {
     pub slot: Slot,
@@ -26,7 +26,7 @@ pub struct CountRow {
     pub ahead: u32,
 }
 
-// The mean price of a location over a past year of a slot.
+/// The mean price of a location over a past year of a slot.
 #[derive(Clone, Copy, PartialEq, Eq, Debug)]
 pub struct MeanRow {
     pub location: u8,

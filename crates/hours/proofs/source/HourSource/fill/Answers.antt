@@ -39,9 +39,9 @@ returns-in-Break--first g c =
     let p = err-from-errBy (c .from-residual .result) (c .from-residual .ensures .1) in
     let y : Result (List ℤ) Fault = year g (c .args .self .now) (c .args .location) (c .args .slot) (c .args .year) in
     let e : y ≡ Err (c .in-Break--first .field-0 .0) =
-      first-fault y (c .args .location) (c .args .year) (c .in-Break--first .field-0 .0)
-      (λ zs there. let f = facts g (c .args .self .now) (c .args .location) (c .args .slot) (c .args .year) zs there in let a = f .0 in let b = f .1 in omega arith)
-      (c .in-Break--first .ensures tt) in
+    first-fault y (c .args .location) (c .args .year) (c .in-Break--first .field-0 .0)
+    (λ zs there. let f = facts g (c .args .self .now) (c .args .location) (c .args .slot) (c .args .year) zs there in let a = f .0 in let b = f .1 in omega arith)
+    (c .in-Break--first .ensures tt) in
     record { answer = p .1 ∙ ap Err (p .2) ∙ sym (ap howMany e); after = sym (ap (λ (r : Result (List ℤ) Fault). written r (c .args .buffer .now)) e) }
 
 pub returns-in-Break-n : need.returns-in-Break-n
@@ -97,5 +97,5 @@ returns g c =
     record {
       answer = ap Ok (omega arith) ∙ sym (ap howMany (h .1));
       after = i ∙ ap (λ (t : List ℤ). t ++ drop (c .loop-hour .hour) (c .args .buffer .now)) (take-all (c .loop-hour .hour) (h .0) (omega arith))
-        ∙ ap (λ (k : ℕ). h .0 ++ drop k (c .args .buffer .now)) {y = length (h .0)} (omega arith) ∙ sym (ap (λ (r : Result (List ℤ) Fault). written r (c .args .buffer .now)) (h .1))
+          ∙ ap (λ (k : ℕ). h .0 ++ drop k (c .args .buffer .now)) {y = length (h .0)} (omega arith) ∙ sym (ap (λ (r : Result (List ℤ) Fault). written r (c .args .buffer .now)) (h .1));
     }
