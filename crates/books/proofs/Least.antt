@@ -2,20 +2,19 @@
 use Prim.Native.Nat.{ℕ, zero, suc, _*_, _<_, _≤_}
 use mathlib.Core.Bool.{Bool, cond, false, true, _&&_}
 use mathlib.Core.List.{List, [], _∷_}
-use mathlib.Core.Path.{_≡_, _∙_, ap, refl, sym}
+use mathlib.Core.Path.{_≡_, _∙_, ap, refl, subst, sym}
 use native.Mathlib.Omega.{arith}
 use lib.Dec.{leb}
 use lib.IntN.{ℤ, pos}
 use lib.ListN.{getD, length}
 use lib.Signed.{_<ℤ_, _≤ℤ_, ltZ}
 use Rattle.std.proofs.shelf.Signed.{ints}
-use Rattle.std.proofs.shelf.Tests.{and-parts, le-leb, leb-true}
+use Rattle.std.proofs.shelf.Tests.{and-from, and-parts, le-leb, leb-true}
 use Rattle.std.specs.Numbers.{minZ}
-use Rattle.std.specs.Options.{Cases}
 use Rattle.std.specs.declared.option.Option.the-variants.{None, Some}
 use Rattle.std.specs.declared.option.Option.{Option}
-use Rattle.std.specs.shelf.Lists.{All}
 use Rattle.hours.specs.Bounds.{Within}
+use Rattle.books.specs.Differences.{Small}
 use Rattle.books.specs.Percentiles.{leastOf, orLess, Percentile, percentileOf, rankable, ranked, reached}
 
 -- nothing below v passes
@@ -80,8 +79,19 @@ ranked-none p (x ∷ xs) h = absurd (omega arith)
 pub ranked-some : (p : ℕ) (xs : List ℤ) (v : ℤ) → rankable p xs ≡ true → Percentile p xs v → Some v ≡ ranked p xs
 ranked-some p xs v h k = sym (ap (λ (b : Bool). cond b (percentileOf p xs) None) h ∙ percentile-value p xs v k)
 
+pub percentile-none : (p : ℕ) (xs : List ℤ) → rankable p xs ≡ true → None ≡ ranked p xs → None ≡ percentileOf p xs
+percentile-none p xs h k = k ∙ ap (λ (b : Bool). cond b (percentileOf p xs) None) h
+
+pub rankable-from : (p : ℕ) (xs : List ℤ) → 1 ≤ p → p ≤ 100 → length xs ≤ 100000 → rankable p xs ≡ true
+rankable-from p xs a b c =
+    and-from (leb 1 p) (leb p 100 && leb (length xs) 100000) (le-leb 1 p a) (and-from (leb p 100) (leb (length xs) 100000) (le-leb p 100 b) (le-leb (length xs) 100000 c))
+
 pub rankable-parts : (p : ℕ) (xs : List ℤ) → rankable p xs ≡ true → (1 ≤ p) × (p ≤ 100) × (length xs ≤ 100000)
 rankable-parts p xs h =
     let a = and-parts (leb 1 p) (leb p 100 && leb (length xs) 100000) h in
     let b = and-parts (leb p 100) (leb (length xs) 100000) (a .1) in
     (leb-true 1 p (a .0), leb-true p 100 (b .0), leb-true (length xs) 100000 (b .1))
+
+-- a percentile lies where the values lie
+pub percentile-within : (b p : ℕ) (xs : List ℤ) (v : ℤ) → Percentile p xs v → Small b xs → Within b v
+percentile-within b p xs v h small = subst (λ (z : ℤ). Within b z) (h .among .1 .1) (small (h .among .0) (h .among .1 .0))

@@ -1,3 +1,6 @@
 pub mod Listings
 pub mod Counts
 pub mod Least
+pub mod Products
+pub mod Hourly
+pub mod Fractions

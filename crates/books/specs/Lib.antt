@@ -4,3 +4,5 @@ pub mod Results
 pub mod Postings
 pub mod Bands
 pub mod Percentiles
+pub mod Differences
+pub mod Histories

@@ -1,14 +1,14 @@
-// A book that holds the prices of the book below between two limits.
+//! A book that holds the prices of the book below between two limits.
 ghost use Rattle.books.specs.Bands.{lawfulLimits, held, banded};
-ghost use Rattle.std.specs.Results.{Cases};
-ghost use mathlib.Core.Bool.{true, false};
+ghost use Rattle.std.specs.Results.{Cases as ByOk, isOk};
+ghost use mathlib.Core.Bool.{true};
 ghost use mathlib.Core.Path.{_≡_};
 use super::book::Book;
 use super::key::Key;
 use hours::Fault;
 use hours::Unlawful;
 
-// A price below the low limit is raised to it, one above the high limit is lowered to that.
+/// A price below the low limit is raised to it, one above the high limit is lowered to that.
 #[derive(Drop)]
 pub struct Band<B> {
     below: B,
@@ -17,10 +17,10 @@ pub struct Band<B> {
     ghost lawful: { lawfulLimits low high ≡ true },
 }
 
-// The refusal of a band, with the book that it was to stand on.
+/// Limits that make no band, and the book that it was to stand on.
 #[derive(Drop)]
 pub struct RefusedBand<B> {
-    pub refusal: Unlawful,
+    pub unlawful: Unlawful,
     pub below: B,
 }
 
@@ -35,13 +35,14 @@ fn are_lawful_limits(low: i64, high: i64) -> bool
 }
 
 impl<B> Band<B> {
-    // Limits that are no lawful prices, or that lie the wrong way round, are refused with line 0.
+    /// Limits that are no lawful prices, or that lie the wrong way round, are refused with line 0.
     pub fn new(below: B, low: i64, high: i64) -> Result<Band<B>, RefusedBand<B>>
-        ensures { λ r. ⌜ Cases r (λ b. (lawfulLimits low high ≡ true) × (b .below ≡ below) × (b .low ≡ low) × (b .high ≡ high)) (λ e. (lawfulLimits low high ≡ false) × (e .refusal .line ≡ 0) × (e .below ≡ below)) ⌝ }
+        ensures made { λ r. ⌜ ByOk r (λ b. (b .below ≡ below) × (b .low ≡ low) × (b .high ≡ high)) (λ e. (e .below ≡ below) × (e .unlawful .line ≡ 0)) ⌝ }
+        ensures refusal { λ r. ⌜ isOk r ≡ lawfulLimits low high ⌝ }
     {
         if !are_lawful_limits(low, high) {
             return Err(RefusedBand {
-                refusal: Unlawful { line: 0 },
+                unlawful: Unlawful { line: 0 },
                 below,
             });
         }

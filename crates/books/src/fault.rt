@@ -1,4 +1,4 @@
-// The faults that a book finds by itself. Those of the hours below it pass through whole.
+//! The faults that a book finds by itself. Those of the hours below it pass through whole.
 ghost use Rattle.books.specs.BookFaults.{unlawfulKey, notPosted, noHours};
 ghost use mathlib.Core.Path.{_≡_};
 use hours::Cause;
@@ -27,7 +27,7 @@ pub fn not_posted() -> Fault
     }
 }
 
-// A past year, or what lies ahead, has no hours.
+/// A past year, or what lies ahead, has no hours.
 pub fn no_hours(year: u8) -> Fault
     ensures { λ r. ⌜ r ≡ noHours year ⌝ }
 {

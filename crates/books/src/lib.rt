@@ -1,13 +1,16 @@
-// Price books: for each key, a path in the hours of a slot, a price or the reason why there is none.
-//
-// `book` has the interface; `posted`, `band` and `history` are the books that ship.
+//! Price books: for each key, a path in the hours of a slot, a price or the reason why there is none.
+//!
+//! `book` has the interface; `posted`, `band` and `history` are the books that ship.
 mod band;
 mod book;
+mod difference;
 mod fault;
 mod key;
+mod mean;
 mod percentile;
 mod posted;
 mod row;
+mod stress;
 
 pub use band::Band;
 pub use band::BandBook;

@@ -1,5 +1,5 @@
-// Percentiles, by bisection between the least and the greatest value. The values are only counted,
-// so they need no order and no memory; they stand in two runs, which are ranked together.
+//! Percentiles, by bisection between the least and the greatest value. The values are only counted,
+//! so they need no order and no memory; they stand in two runs, which are ranked together.
 ghost use Prim.Native.Nat.{_+_, _<_, _≤_};
 ghost use Rattle.books.specs.Percentiles.{atMost, reached, rankable, ranked, Percentile};
 ghost use Rattle.std.specs.Iters.{folded};
@@ -9,10 +9,10 @@ ghost use lib.ListN.{length};
 ghost use mathlib.Core.List.{_++_};
 ghost use mathlib.Core.Path.{_≡_};
 
-// The most values that are ranked.
+/// The most values that are ranked.
 const MOST_VALUES: usize = 100_000;
 
-// How many are above v. Counted in 32 bits, without a way out of the loop, so that many are compared at once.
+/// How many are above v. Counted in 32 bits, without a way out of the loop, so that many are compared at once.
 fn above(values: &[i32], v: i32) -> u32
     requires { ⌜ length (now values) ≤ 100000 ⌝ }
     ensures { λ r. ⌜ r + atMost v (now (values .entry)) ≡ length (now (values .entry)) ⌝ }
@@ -26,7 +26,7 @@ fn above(values: &[i32], v: i32) -> u32
     n
 }
 
-// Whether at least p in a hundred are at most v.
+/// Whether at least p in a hundred are at most v.
 fn reaches(first: &[i32], second: &[i32], p: u8, v: i32) -> bool
     requires { ⌜ length (now first) + length (now second) ≤ 100000 ⌝ }
     ensures { λ r. ⌜ r ≡ reached p (now (first .entry) ++ now (second .entry)) v ⌝ }
@@ -60,7 +60,7 @@ fn highest(values: &[i32], start: i32) -> i32
     high
 }
 
-// No number below `low` reaches p in a hundred, and `high` does; they close in on the percentile.
+/// No number below `low` reaches p in a hundred, and `high` does; they close in on the percentile.
 fn bisect(first: &[i32], second: &[i32], p: u8) -> i32
     requires some { ⌜ 0 < length (now first) + length (now second) ⌝ }
     requires few { ⌜ length (now first) + length (now second) ≤ 100000 ⌝ }
@@ -90,8 +90,8 @@ fn is_rankable(first: &[i32], second: &[i32], p: u8) -> bool
         && second.len() <= MOST_VALUES - first.len()
 }
 
-// The smallest value that at least p in a hundred of the values do not exceed. There is none of no
-// values, and it is not looked for if p is not 1 to 100 or if there are more than 100,000 values.
+/// The smallest value that at least p in a hundred of the values do not exceed. There is none of no
+/// values, and it is not looked for if p is not 1 to 100 or if there are more than 100,000 values.
 pub fn percentile_of(first: &[i32], second: &[i32], p: u8) -> Option<i32>
     ensures value { λ r. ⌜ r ≡ ranked p (now (first .entry) ++ now (second .entry)) ⌝ }
     ensures least { λ r. ⌜ BySome r Unit (λ v. Percentile p (now (first .entry) ++ now (second .entry)) v) ⌝ }

@@ -1,8 +1,8 @@
-// A book of posted rows.
+//! A book of posted rows.
 ghost use Rattle.books.specs.Postings.{posted, postingRefusal};
 ghost use Rattle.std.specs.Of.Vec.{vec-items};
 ghost use Rattle.std.specs.Options.{isSome};
-ghost use Rattle.std.specs.Results.{Cases};
+ghost use Rattle.std.specs.Results.{Cases as ByOk};
 ghost use Rattle.std.specs.declared.option.Option.the-variants.{Some, None};
 ghost use mathlib.Core.Bool.{false};
 ghost use mathlib.Core.Path.{_≡_};
@@ -17,29 +17,30 @@ use super::row::rows_refusal;
 use hours::Fault;
 use hours::Unlawful;
 
-// At most 128 lawful rows, no key twice.
+/// At most 128 lawful rows, no key twice.
 #[derive(Drop)]
 pub struct Posted {
     rows: Vec<Row>,
     ghost lawful: { isSome (postingRefusal (vec-items rows)) ≡ false },
 }
 
-// The refusal of rows, with the rows themselves.
+/// Rows that make no book, as they were given, and the line that is at fault.
 #[derive(Drop)]
 pub struct RefusedPosting {
-    pub refusal: Unlawful,
+    pub unlawful: Unlawful,
     pub rows: Vec<Row>,
 }
 
 impl Posted {
-    // Refused with line 0 for more than 128 rows, else with the place of the first row that is
-    // unlawful or whose key an earlier row lists.
+    /// Refused with line 0 for more than 128 rows, else with the place of the first row that is
+    /// unlawful or whose key an earlier row lists.
     pub fn new(rows: Vec<Row>) -> Result<Posted, RefusedPosting>
-        ensures { λ r. ⌜ Cases r (λ b. (postingRefusal (vec-items rows) ≡ None) × (b .rows ≡ rows)) (λ e. (postingRefusal (vec-items rows) ≡ Some (e .refusal .line)) × (e .rows ≡ rows)) ⌝ }
+        ensures made { λ r. ⌜ ByOk r (λ b. b .rows ≡ rows) (λ e. e .rows ≡ rows) ⌝ }
+        ensures refusal { λ r. ⌜ ByOk r (λ b. postingRefusal (vec-items rows) ≡ None) (λ e. postingRefusal (vec-items rows) ≡ Some (e .unlawful .line)) ⌝ }
     {
         match rows_refusal(rows.as_slice()) {
             Some(line) => Err(RefusedPosting {
-                refusal: Unlawful { line },
+                unlawful: Unlawful { line },
                 rows,
             }),
             None => Ok(Posted { rows }),

@@ -1,4 +1,4 @@
-// The rows that a posted book is made of, which of them are lawful, and what they say.
+//! The rows that a posted book is made of, which of them are lawful, and what they say.
 ghost use Prim.Native.Nat.{_≤_};
 ghost use Rattle.books.specs.Postings.{listed, lawfulRow, rowAtFault, postingRefusal};
 ghost use Rattle.hours.specs.Means.{firstAtFault};
@@ -12,7 +12,7 @@ use super::key::KeyPartialEq;
 use super::key::is_lawful_key;
 use super::key::same_key;
 
-// The price of a key, in cents per megawatt for the whole period.
+/// The price of a key, in cents per megawatt for the whole period.
 #[derive(Clone, Copy, PartialEq, Eq, Debug)]
 pub struct Row {
     pub key: Key,
@@ -54,7 +54,7 @@ fn first_at_fault(rows: &[Row]) -> Option<u32>
     None
 }
 
-// The line at which these rows are refused, if they are.
+/// The line at which these rows are refused, if they are.
 pub(crate) fn rows_refusal(rows: &[Row]) -> Option<u32>
     ensures { λ r. ⌜ r ≡ postingRefusal (now (rows .entry)) ⌝ }
 {
