@@ -2,6 +2,7 @@
 use Prim.Native.Nat.{ℕ, suc, _+_, _*_, _<_, _≤_}
 use mathlib.Core.List.{List, [], _∷_, _++_, map}
 use mathlib.Core.Path.{_≡_, refl, sym, ap, _∙_}
+use native.Mathlib.Nat.{mul-suc}
 use native.Mathlib.Omega.{arith}
 use lib.IntN.{ℤ, pos, negℤ, _+ℤ_, _-ℤ_}
 use lib.ListN.{length, getD, set, take, drop}
@@ -10,7 +11,7 @@ use Rattle.std.proofs.shelf.Lists.{append-assoc, drop-more, getD-at, length-map
 use Rattle.std.proofs.shelf.Signed.{ints}
 use Rattle.std.specs.shelf.Lists.{All}
 use Rattle.hours.specs.Bounds.{Within}
-use Rattle.books.specs.Differences.{differences, total, losses, Small}
+use Rattle.books.specs.Differences.{differences, total, losses, summed, Small, YearSum}
 
 -- numbers that are all small
 pub small-all : (b : ℕ) (xs : List ℤ) → Small b xs → All (Within b) xs
@@ -78,3 +79,38 @@ module _ (xs ys : List ℤ) (i : ℕ) (long : i < length xs) (tall : i < length 
       ∙ sym (append-assoc (losses front) (negℤ (x -ℤ y) ∷ []) (drop (i + 1) ys))
       ∙ ap (λ (t : List ℤ). t ++ drop (i + 1) ys) (sym (map-push negℤ front (x -ℤ y)))
       ∙ ap (λ (t : List ℤ). losses t ++ drop (i + 1) ys) (sym front-more)
+
+-- differences of prices within b are within twice that, and so are the losses and, hour by hour, the sum
+all-differences : (b : ℕ) (xs ys : List ℤ) → All (Within b) xs → All (Within b) ys → All (Within (2 * b)) (differences xs ys)
+all-differences b [] ys h k = tt
+all-differences b (x ∷ xs) [] h k = tt
+all-differences b (x ∷ xs) (y ∷ ys) h k = (here (h .0) (k .0), all-differences b xs ys (h .1) (k .1))
+  where
+    here : Within b x → Within b y → Within (2 * b) (x -ℤ y)
+    here a c = (omega (arith, ints), omega (arith, ints))
+
+all-losses : (b : ℕ) (ds : List ℤ) → All (Within b) ds → All (Within b) (losses ds)
+all-losses b [] h = tt
+all-losses b (d ∷ ds) h = (here (h .0), all-losses b ds (h .1))
+  where
+    here : Within b d → Within b (negℤ d)
+    here a = (omega (arith, ints), omega (arith, ints))
+
+total-within : (b : ℕ) (ds : List ℤ) → All (Within b) ds → Within (b * length ds) (total ds)
+total-within b [] h = (omega (arith, ints), omega (arith, ints))
+total-within b (d ∷ ds) h = more (h .0) (total-within b ds (h .1))
+  where
+    more : Within b d → Within (b * length ds) (total ds) → Within (b * suc (length ds)) (d +ℤ total ds)
+    more a c = let m = mul-suc b (length ds) in (omega (arith, ints), omega (arith, ints))
+
+-- what is known of the differences of a year
+pub record Differ (ds : List ℤ) : Type 0 where
+  pub sum : YearSum (summed ds)
+  pub few : length ds ≤ 9000
+  pub lost : All (Within 400000) (losses ds)
+
+pub differ : (n : ℕ) (xs ys : List ℤ) → 0 < n → n ≤ 9000 → length xs ≡ n → length ys ≡ n → Small 200000 xs → Small 200000 ys → Differ (differences xs ys)
+differ n xs ys some few a b sx sy =
+    let all = all-differences 200000 xs ys (small-all 200000 xs sx) (small-all 200000 ys sy) in
+    let long = length-differences xs ys (a ∙ sym b) ∙ a in
+    record { sum = (omega arith, omega arith, total-within 400000 (differences xs ys) all); few = omega arith; lost = all-losses 400000 (differences xs ys) all }

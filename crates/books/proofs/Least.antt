@@ -11,10 +11,14 @@ use lib.Signed.{_<ℤ_, _≤ℤ_, ltZ}
 use Rattle.std.proofs.shelf.Signed.{ints}
 use Rattle.std.proofs.shelf.Tests.{and-from, and-parts, le-leb, leb-true}
 use Rattle.std.specs.Numbers.{minZ}
+use Rattle.std.specs.Options.{Cases}
 use Rattle.std.specs.declared.option.Option.the-variants.{None, Some}
 use Rattle.std.specs.declared.option.Option.{Option}
+use Rattle.std.specs.shelf.Lists.{All}
 use Rattle.hours.specs.Bounds.{Within}
 use Rattle.books.specs.Differences.{Small}
+use Rattle.books.specs.Histories.{stressOf}
+use Rattle.books.proofs.Products.{max-within}
 use Rattle.books.specs.Percentiles.{leastOf, orLess, Percentile, percentileOf, rankable, ranked, reached}
 
 -- nothing below v passes
@@ -95,3 +99,22 @@ rankable-parts p xs h =
 -- a percentile lies where the values lie
 pub percentile-within : (b p : ℕ) (xs : List ℤ) (v : ℤ) → Percentile p xs v → Small b xs → Within b v
 percentile-within b p xs v h small = subst (λ (z : ℤ). Within b z) (h .among .1 .1) (small (h .among .0) (h .among .1 .0))
+
+-- the least of values within b is within b
+least-within : (b : ℕ) (test : ℤ → Bool) (xs : List ℤ) → All (Within b) xs → Cases (leastOf test xs) (Unit {0}) (Within b)
+least-within b test [] h = tt
+least-within b test (x ∷ xs) h = by (test x) (leastOf test xs) (least-within b test xs (h .1))
+  where
+    less : (o : Option ℤ) → Cases o (Unit {0}) (Within b) → Within b (orLess x o)
+    less None k = h .0
+    less (Some y) k = let a = h .0 in (grind (arith, ints), grind (arith, ints))
+    by : (c : Bool) (o : Option ℤ) → Cases o (Unit {0}) (Within b) → Cases (cond c (Some (orLess x o)) o) (Unit {0}) (Within b)
+    by true o k = less o k
+    by false o k = k
+
+pub stress-within : (b p : ℕ) (xs : List ℤ) → All (Within b) xs → Within b (stressOf (percentileOf p xs))
+stress-within b p xs h = by (percentileOf p xs) (least-within b (reached p xs) xs h)
+  where
+    by : (o : Option ℤ) → Cases o (Unit {0}) (Within b) → Within b (stressOf o)
+    by None k = (omega (arith, ints), omega (arith, ints))
+    by (Some v) k = max-within b v k

@@ -4,3 +4,4 @@ pub mod Least
 pub mod Products
 pub mod Hourly
 pub mod Fractions
+pub mod PathYears

@@ -65,10 +65,14 @@ abbrev pub pathYears : (ℕ → Slot → ℕ → Result (List ℤ) Fault) → Pa
 pathYears year p s =
     bind (year (p .source) s 0) (λ a. bind (year (p .source) s 1) (λ b. bind (year (p .sink) s 0) (λ c. bind (year (p .sink) s 1) (λ d. Ok (differences c a, differences d b)))))
 
+-- the price of a path whose differences are known
+abbrev pub pricedYears : ℕ → Result (List ℤ × List ℤ) Fault → Result ℤ Fault
+pricedYears ahead r = bind r (λ years. Ok (pathPrice ahead (years .0) (years .1)))
+
 -- the price of a key: the key has to be lawful, the three counts must not be 0, and both locations need both years
 abbrev pub historyPrice : (Slot → ℕ → ℕ) → ℕ → (ℕ → Slot → ℕ → Option (List ℤ)) → Key → Result ℤ Fault
 historyPrice hours locations prices k =
     cond (lawfulKey k)
     (bind (someHours hours (k .slot) 0) (λ _. bind (someHours hours (k .slot) 1) (λ _. bind (someHours hours (k .slot) 2) (λ ahead.
-      bind (pathYears (yearOf locations prices) (k .path) (k .slot)) (λ years. Ok (pathPrice ahead (years .0) (years .1)))))))
+      pricedYears ahead (pathYears (yearOf locations prices) (k .path) (k .slot))))))
     (Err unlawfulKey)
