@@ -5,3 +5,4 @@ pub mod Products
 pub mod Hourly
 pub mod Fractions
 pub mod PathYears
+mod Figures

@@ -2,7 +2,9 @@
 ghost use Prim.Native.Nat.{_≤_};
 ghost use Rattle.books.specs.Differences.{lost, gained, summedYears, LostIn, Small, YearSum};
 ghost use Rattle.books.specs.Histories.{priceFrom, someHours, pathYears, pricedYears, historyPrice};
+ghost use Rattle.hours.specs.Bounds.{Within};
 ghost use Rattle.hours.specs.Questions.{yearOf};
+ghost use lib.IntN.{_-ℤ_};
 ghost use lib.ListN.{length};
 ghost use mathlib.Core.List.{_++_};
 ghost use mathlib.Core.Path.{_≡_};
@@ -81,6 +83,15 @@ fn read_path<S: HourSource>(
     Ok((first, second))
 }
 
+/// What is left of the mean.
+fn less(mean: i64, stress: i64) -> i64
+    requires mean { ⌜ Within 3600000000 mean ⌝ }
+    requires stress { ⌜ Within 3600000000 stress ⌝ }
+    ensures { λ r. ⌜ r ≡ mean -ℤ stress ⌝ }
+{
+    mean - stress
+}
+
 /// The mean over the hours ahead, less the stress in each of them.
 fn price_from(
     ahead: u16,
@@ -100,7 +111,7 @@ fn price_from(
 {
     let p = percent_by(weighted(recent, distant));
     let hourly = stress(recent_losses, distant_losses, p);
-    mean_ahead(ahead, recent, distant) - times(hourly, ahead)
+    less(mean_ahead(ahead, recent, distant), times(hourly, ahead))
 }
 
 /// The price of a path, from the prices at its two locations: each is read once.

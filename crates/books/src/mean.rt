@@ -1,7 +1,7 @@
 //! The mean of a path's differences over two years, as a fraction of whole numbers. A year goes by the sum and the number of its differences.
 ghost use Prim.Native.Nat.{_*_, _<_, _≤_};
 ghost use Rattle.books.specs.Differences.{YearSum};
-ghost use Rattle.books.specs.Histories.{numerator, denominator, meanAhead};
+ghost use Rattle.books.specs.Histories.{numerator, denominator, floored, meanAhead};
 ghost use Rattle.hours.specs.Bounds.{Within};
 ghost use lib.IntN.{pos, _*ℤ_};
 ghost use mathlib.Core.Path.{_≡_};
@@ -42,7 +42,15 @@ fn divisor(recent: (i64, u16), distant: (i64, u16)) -> u32
     4 * product(recent.1, distant.1)
 }
 
-/// The mean over the hours ahead, rounded down: `/` would round a negative one up.
+/// The greatest whole number that is not above the fraction: `/` would round a negative one up.
+fn floor(a: i64, d: u32) -> i64
+    requires { ⌜ 0 < d ⌝ }
+    ensures { λ r. ⌜ r ≡ floored a d ⌝ }
+{
+    a.div_euclid(i64::from(d))
+}
+
+/// The mean over the hours ahead, rounded down.
 pub(crate) fn mean_ahead(ahead: u16, recent: (i64, u16), distant: (i64, u16)) -> i64
     requires few { ⌜ ahead ≤ 9000 ⌝ }
     requires recent { ⌜ YearSum recent ⌝ }
@@ -50,5 +58,5 @@ pub(crate) fn mean_ahead(ahead: u16, recent: (i64, u16), distant: (i64, u16)) ->
     ensures value { λ r. ⌜ r ≡ meanAhead ahead recent distant ⌝ }
     ensures small { λ r. ⌜ Within 3600000000 r ⌝ }
 {
-    times(weighted(recent, distant), ahead).div_euclid(i64::from(divisor(recent, distant)))
+    floor(times(weighted(recent, distant), ahead), divisor(recent, distant))
 }
