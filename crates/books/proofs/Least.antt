@@ -1,5 +1,5 @@
 -- The least of the values that pass a test.
-use Prim.Native.Nat.{ℕ, zero, suc, _*_, _<_, _≤_}
+use Prim.Native.Nat.{ℕ, zero, suc, _<_, _≤_}
 use mathlib.Core.Bool.{Bool, cond, false, true, _&&_}
 use mathlib.Core.List.{List, [], _∷_}
 use mathlib.Core.Path.{_≡_, _∙_, ap, refl, subst, sym}
@@ -108,6 +108,7 @@ least-within b test (x ∷ xs) h = by (test x) (leastOf test xs) (least-within b
     less : (o : Option ℤ) → Cases o (Unit {0}) (Within b) → Within b (orLess x o)
     less None k = h .0
     less (Some y) k = let a = h .0 in (grind (arith, ints), grind (arith, ints))
+
     by : (c : Bool) (o : Option ℤ) → Cases o (Unit {0}) (Within b) → Cases (cond c (Some (orLess x o)) o) (Unit {0}) (Within b)
     by true o k = less o k
     by false o k = k

@@ -1,6 +1,6 @@
 -- What is known of rows that are not refused.
 use Prim.Native.Nat.{ℕ, _+_}
-use mathlib.Core.Bool.{Bool, true, false, cond, not, _||_, _&&_}
+use mathlib.Core.Bool.{Bool, true, false, cond, not, _||_}
 use mathlib.Core.List.{List, [], _∷_, _++_}
 use mathlib.Core.Path.{_≡_, refl}
 use native.Mathlib.Omega.{arith}
@@ -10,8 +10,7 @@ use lib.ListN.{length}
 use Rattle.std.proofs.shelf.Signed.{ints}
 use Rattle.std.specs.Options.{isSome}
 use Rattle.std.specs.Vec.{made}
-use Rattle.std.specs.declared.option.Option.{Option}
-use Rattle.std.specs.declared.option.Option.the-variants.{Some, None}
+use Rattle.std.specs.declared.option.Option.the-variants.{Some}
 use Rattle.std.specs.shelf.Lists.{All}
 use Rattle.std.proofs.shelf.Tests.{and-parts}
 use Rattle.hours.specs.Bounds.{Within, within}
@@ -22,8 +21,7 @@ use Rattle.books.specs.Keys.{lawfulKey}
 use Rattle.books.specs.Postings.{listed, priceIn, posted, lawfulRow, rowAtFault, postingRefusal}
 use Rattle.books.specs.declared.key.Key.{Key}
 use Rattle.books.specs.declared.row.Row.{Row}
-use Rattle.std.specs.declared.result.Result.{Result}
-use Rattle.std.specs.declared.result.Result.the-variants.{Ok, Err}
+use Rattle.std.specs.declared.result.Result.the-variants.{Err}
 
 -- a test that is passed
 pub within-true : (b : ℕ) (z : ℤ) → within b z ≡ true → Within b z

@@ -1,14 +1,14 @@
 -- The years of a path, read from a source that keeps its laws.
 use Prim.Native.Nat.{ℕ, _+_, _*_, _<_, _≤_}
 use mathlib.Core.Bool.{Bool, true, false, cond, _&&_}
-use mathlib.Core.List.{List, [], _∷_, _++_, map}
+use mathlib.Core.List.{List, _++_}
 use mathlib.Core.Path.{_≡_, refl, sym, ap, subst, _∙_}
 use native.Mathlib.Omega.{arith}
 use lib.Dec.{eqb}
 use lib.IntN.{ℤ, pos, negℤ, _-ℤ_, _*ℤ_}
 use lib.ListN.{length, getD, replicate, take, drop}
 use Rattle.std.proofs.shelf.Elements.{all-append, all-drop}
-use Rattle.std.proofs.shelf.Lists.{drop-at, getD-replicate, length-map, length-replicate, map-append, take-at}
+use Rattle.std.proofs.shelf.Lists.{getD-replicate, length-map, length-replicate, map-append, take-at}
 use Rattle.std.proofs.shelf.Signed.{ints}
 use Rattle.std.specs.Vec.{made}
 use Rattle.std.specs.declared.option.Option.{Option}
@@ -20,7 +20,7 @@ use Rattle.hours.proofs.Years.{clash, asked, some-hours}
 use Rattle.hours.specs.Bounds.{Within}
 use Rattle.hours.specs.Faults.{unlawfulQuestion}
 use Rattle.hours.specs.Periods.{lawfulSlot, lawfulYear}
-use Rattle.hours.specs.Questions.{counted, yearOf, howMany, written}
+use Rattle.hours.specs.Questions.{yearOf, howMany, written}
 use Rattle.hours.specs.declared.fault.Fault.{Fault}
 use Rattle.hours.specs.declared.period.Slot.{Slot}
 use Rattle.books.specs.BookFaults.{unlawfulKey, noHours}
@@ -161,18 +161,21 @@ path-facts hours locations prices laws p s ds h = go (year (p .source) 0) (year 
   where
     year : ℕ → ℕ → Result (List ℤ) Fault
     year l y = yearOf locations prices l s y
+
     known : (l y : ℕ) (zs : List ℤ) → yearOf locations prices l s y ≡ Ok zs → There (hours s y) zs
     known l y = there hours locations prices laws l s y
+
     both : (n : ℕ) (x z : List ℤ) → There n x → There n z → Differ (differences z x)
     both n x z a b = differ n z x (a .some) (a .few) (b .long) (a .long) (b .small) (a .small)
+
     go : (a b c d : Result (List ℤ) Fault) → ((zs : List ℤ) → a ≡ Ok zs → There (hours s 0) zs) → ((zs : List ℤ) → b ≡ Ok zs → There (hours s 1) zs) → ((zs : List ℤ) → c ≡ Ok zs → There (hours s 0) zs) → ((zs : List ℤ) → d ≡ Ok zs → There (hours s 1) zs) → joined a b c d ≡ Ok ds → Differ (ds .0) × Differ (ds .1)
     go (Err e) b c d ka kb kc kd q = clash ds e (sym q)
     go (Ok x) (Err e) c d ka kb kc kd q = clash ds e (sym q)
     go (Ok x) (Ok y) (Err e) d ka kb kc kd q = clash ds e (sym q)
     go (Ok x) (Ok y) (Ok z) (Err e) ka kb kc kd q = clash ds e (sym q)
     go (Ok x) (Ok y) (Ok z) (Ok w) ka kb kc kd q =
-      let same : (differences z x, differences w y) ≡ ds = cc in
-      (subst Differ (ap (λ (t : List ℤ × List ℤ). t .0) same) (both (hours s 0) x z (ka x refl) (kc z refl)), subst Differ (ap (λ (t : List ℤ × List ℤ). t .1) same) (both (hours s 1) y w (kb y refl) (kd w refl)))
+        let same : (differences z x, differences w y) ≡ ds = cc in
+        (subst Differ (ap (λ (t : List ℤ × List ℤ). t .0) same) (both (hours s 0) x z (ka x refl) (kc z refl)), subst Differ (ap (λ (t : List ℤ × List ℤ). t .1) same) (both (hours s 1) y w (kb y refl) (kd w refl)))
 
 -- some hours are those of the slot and year
 pub hours-are : (hours : Slot → ℕ → ℕ) (s : Slot) (y n : ℕ) → someHours hours s y ≡ Ok n → n ≡ hours s y
@@ -181,6 +184,7 @@ hours-are hours s y n h = lawful (lawfulSlot s && lawfulYear y) h
     some : (b : Bool) → cond b (Err (noHours y)) (Ok (hours s y)) ≡ Ok n → n ≡ hours s y
     some true q = clash n (noHours y) (sym q)
     some false q = cc
+
     lawful : (b : Bool) → bind (cond b (Ok (hours s y)) (Err unlawfulQuestion)) (λ n. cond (eqb n 0) (Err (noHours y)) (Ok n)) ≡ Ok n → n ≡ hours s y
     lawful true q = some (eqb (hours s y) 0) q
     lawful false q = clash n unlawfulQuestion (sym q)
@@ -202,12 +206,13 @@ history-bounded hours locations prices laws k = go (lawfulKey k)
   where
     at : (h : ℕ) → someHours hours (k .slot) 2 ≡ Ok h → made (pricedYears h (pathYears (yearOf locations prices) (k .path) (k .slot))) (Within 8000000000)
     at h e =
-      made-bind (pathYears (yearOf locations prices) (k .path) (k .slot)) _ (Within 8000000000)
-      (λ years q. let f = path-facts hours locations prices laws (k .path) (k .slot) years q in price-within h (years .0) (years .1) (omega (arith, hours-are hours (k .slot) 2 h e, laws .few (k .slot) 2)) (f .0) (f .1))
+        made-bind (pathYears (yearOf locations prices) (k .path) (k .slot)) _ (Within 8000000000)
+        (λ years q. let f = path-facts hours locations prices laws (k .path) (k .slot) years q in price-within h (years .0) (years .1) (omega (arith, hours-are hours (k .slot) 2 h e, laws .few (k .slot) 2)) (f .0) (f .1))
+
     go : (b : Bool) → made (cond b (bind (someHours hours (k .slot) 0) (λ _. bind (someHours hours (k .slot) 1) (λ _. bind (someHours hours (k .slot) 2) (λ h. pricedYears h (pathYears (yearOf locations prices) (k .path) (k .slot)))))) (Err unlawfulKey)) (Within 8000000000)
     go false = tt
     go true =
-      made-bind (someHours hours (k .slot) 0) _ (Within 8000000000) (λ _ p. made-bind (someHours hours (k .slot) 1) _ (Within 8000000000) (λ _ q. made-bind (someHours hours (k .slot) 2) _ (Within 8000000000) (λ h e. at h e)))
+        made-bind (someHours hours (k .slot) 0) _ (Within 8000000000) (λ _ p. made-bind (someHours hours (k .slot) 1) _ (Within 8000000000) (λ _ q. made-bind (someHours hours (k .slot) 2) _ (Within 8000000000) (λ h e. at h e)))
 
 -- what is known once both years of a path are read: their sums, and the losses at the front of the buffers
 pub record Read (r : Result (List ℤ × List ℤ) Fault) (first second : ℤ × ℕ) (recent distant : List ℤ) : Type 0 where
@@ -238,11 +243,18 @@ read-both hours locations prices laws p s first second recent distant answer aft
     let h : take (first .1) recent ≡ losses (ds .0) = ap (λ (t : ℤ × ℕ). take (t .1) recent) e ∙ lost .0 in
     let k : take (second .1) distant ≡ losses (ds .1) = ap (λ (t : ℤ × ℕ). take (t .1) distant) g ∙ lost .1 in
     record {
-      years = ds; is = b .1; first-is = e; second-is = g;
-      first-sum = subst YearSum (sym e) (f .0 .sum); second-sum = subst YearSum (sym g) (f .1 .sum);
-      recent-is = h; distant-is = k;
-      recent-small = subst (Small 400000) (sym h) (all-small 400000 (losses (ds .0)) (f .0 .lost)); distant-small = subst (Small 400000) (sym k) (all-small 400000 (losses (ds .1)) (f .1 .lost));
-      recent-long = omega (arith, ap length h, length-map (ds .0) negℤ, f .0 .few); distant-long = omega (arith, ap length k, length-map (ds .1) negℤ, f .1 .few)
+      years = ds;
+      is = b .1;
+      first-is = e;
+      second-is = g;
+      first-sum = subst YearSum (sym e) (f .0 .sum);
+      second-sum = subst YearSum (sym g) (f .1 .sum);
+      recent-is = h;
+      distant-is = k;
+      recent-small = subst (Small 400000) (sym h) (all-small 400000 (losses (ds .0)) (f .0 .lost));
+      distant-small = subst (Small 400000) (sym k) (all-small 400000 (losses (ds .1)) (f .1 .lost));
+      recent-long = omega (arith, ap length h, length-map (ds .0) negℤ, f .0 .few);
+      distant-long = omega (arith, ap length k, length-map (ds .1) negℤ, f .1 .few);
     }
 
 -- the price of what was read
@@ -250,9 +262,9 @@ pub read-price : (h : ℕ) (r : Result (List ℤ × List ℤ) Fault) (first seco
 read-price h r first second recent distant z read value =
     let ds = read .years in
     ap Ok (value
-      ∙ ap (λ (t : ℤ × ℕ). priceFrom h t second (take (first .1) recent ++ take (second .1) distant)) (read .first-is)
-      ∙ ap (λ (t : ℤ × ℕ). priceFrom h (summed (ds .0)) t (take (first .1) recent ++ take (second .1) distant)) (read .second-is)
-      ∙ ap (λ (xs : List ℤ). priceFrom h (summed (ds .0)) (summed (ds .1)) (xs ++ take (second .1) distant)) (read .recent-is)
-      ∙ ap (λ (xs : List ℤ). priceFrom h (summed (ds .0)) (summed (ds .1)) (losses (ds .0) ++ xs)) (read .distant-is)
-      ∙ ap (priceFrom h (summed (ds .0)) (summed (ds .1))) (sym (map-append negℤ (ds .0) (ds .1))))
+    ∙ ap (λ (t : ℤ × ℕ). priceFrom h t second (take (first .1) recent ++ take (second .1) distant)) (read .first-is)
+    ∙ ap (λ (t : ℤ × ℕ). priceFrom h (summed (ds .0)) t (take (first .1) recent ++ take (second .1) distant)) (read .second-is)
+    ∙ ap (λ (xs : List ℤ). priceFrom h (summed (ds .0)) (summed (ds .1)) (xs ++ take (second .1) distant)) (read .recent-is)
+    ∙ ap (λ (xs : List ℤ). priceFrom h (summed (ds .0)) (summed (ds .1)) (losses (ds .0) ++ xs)) (read .distant-is)
+    ∙ ap (priceFrom h (summed (ds .0)) (summed (ds .1))) (sym (map-append negℤ (ds .0) (ds .1))))
     ∙ sym (ap (pricedYears h) (read .is))

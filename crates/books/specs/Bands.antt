@@ -1,5 +1,4 @@
 -- A price held between two limits.
-use Prim.Native.Nat.{ℕ}
 use mathlib.Core.Bool.{Bool, cond, _&&_}
 use lib.IntN.{ℤ}
 use lib.Signed.{ltZ, leZ}

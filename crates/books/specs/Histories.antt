@@ -74,5 +74,5 @@ abbrev pub historyPrice : (Slot → ℕ → ℕ) → ℕ → (ℕ → Slot → �
 historyPrice hours locations prices k =
     cond (lawfulKey k)
     (bind (someHours hours (k .slot) 0) (λ _. bind (someHours hours (k .slot) 1) (λ _. bind (someHours hours (k .slot) 2) (λ ahead.
-      pricedYears ahead (pathYears (yearOf locations prices) (k .path) (k .slot))))))
+    pricedYears ahead (pathYears (yearOf locations prices) (k .path) (k .slot))))))
     (Err unlawfulKey)

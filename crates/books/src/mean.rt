@@ -58,5 +58,8 @@ pub(crate) fn mean_ahead(ahead: u16, recent: (i64, u16), distant: (i64, u16)) ->
     ensures value { λ r. ⌜ r ≡ meanAhead ahead recent distant ⌝ }
     ensures small { λ r. ⌜ Within 3600000000 r ⌝ }
 {
-    floor(times(weighted(recent, distant), ahead), divisor(recent, distant))
+    floor(
+        times(weighted(recent, distant), ahead),
+        divisor(recent, distant),
+    )
 }

@@ -84,10 +84,7 @@ fn bisect(first: &[i32], second: &[i32], p: u8) -> i32
 fn is_rankable(first: &[i32], second: &[i32], p: u8) -> bool
     ensures { λ r. ⌜ r ≡ rankable p (now (first .entry) ++ now (second .entry)) ⌝ }
 {
-    1 <= p
-        && p <= 100
-        && first.len() <= MOST_VALUES
-        && second.len() <= MOST_VALUES - first.len()
+    1 <= p && p <= 100 && first.len() <= MOST_VALUES && second.len() <= MOST_VALUES - first.len()
 }
 
 /// The smallest value that at least p in a hundred of the values do not exceed. There is none of no

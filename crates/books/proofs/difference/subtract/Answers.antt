@@ -1,8 +1,8 @@
 use Prim.Native.Nat.{ℕ, _<_, _≤_}
-use mathlib.Core.List.{List, _++_}
-use mathlib.Core.Path.{_≡_, refl, sym, ap, _∙_}
+use mathlib.Core.List.{_++_}
+use mathlib.Core.Path.{_≡_, sym, ap, _∙_}
 use native.Mathlib.Omega.{arith}
-use lib.IntN.{ℤ, pos}
+use lib.IntN.{ℤ}
 use lib.ListN.{length, take, drop}
 use Rattle.std.proofs.shelf.Lists.{length-take-le}
 use Rattle.std.proofs.shelf.Signed.{ints}
@@ -61,5 +61,5 @@ returns c =
     let long : length ds ≡ n = length-differences (take n xs) (take n ys) (length-take-le n xs a ∙ sym (length-take-le n ys b)) ∙ length-take-le n xs a in
     record {
       answer = ap (λ (z : ℤ). (z, n)) sum ∙ ap (λ (k : ℕ). (total ds, k)) (sym long);
-      after = c .loop-i .inv .0 ∙ ap (λ (k : ℕ). losses (differences (take k xs) (take k ys)) ++ drop k ys) e
+      after = c .loop-i .inv .0 ∙ ap (λ (k : ℕ). losses (differences (take k xs) (take k ys)) ++ drop k ys) e;
     }

@@ -73,9 +73,13 @@ price-from-requires g c κs =
     let a : take (first .1) recent ≡ take (c .from .result - 0) recent = ap (λ (n : ℕ). take n recent) (omega arith) in
     let b : take (second .1) distant ≡ take (c .from-2 .result - 0) distant = ap (λ (n : ℕ). take n distant) (omega arith) in
     record {
-      few = c .pre; recent = r .first-sum; distant = r .second-sum;
-      few-recent = subst (λ (xs : List ℤ). length xs ≤ 9000) a (r .recent-long); few-distant = subst (λ (xs : List ℤ). length xs ≤ 9000) b (r .distant-long);
-      small-recent = subst (Small 400000) a (r .recent-small); small-distant = subst (Small 400000) b (r .distant-small)
+      few = c .pre;
+      recent = r .first-sum;
+      distant = r .second-sum;
+      few-recent = subst (λ (xs : List ℤ). length xs ≤ 9000) a (r .recent-long);
+      few-distant = subst (λ (xs : List ℤ). length xs ≤ 9000) b (r .distant-long);
+      small-recent = subst (Small 400000) a (r .recent-small);
+      small-distant = subst (Small 400000) b (r .distant-small);
     }
 
 pub returns : need.returns
@@ -90,7 +94,7 @@ returns g c =
     let b : take (c .from-2 .result - 0) distant ≡ take (second .1) distant = ap (λ (n : ℕ). take n distant) (omega arith) in
     let z = toZ w64 (ofZ w64 (c .price-from .result)) in
     let value : z ≡ priceFrom h first second (take (first .1) recent ++ take (second .1) distant) =
-      omega (arith, ints) ∙ c .price-from .ensures
-      ∙ ap (λ (xs : List ℤ). priceFrom h first second (xs ++ take (c .from-2 .result - 0) distant)) a
-      ∙ ap (λ (xs : List ℤ). priceFrom h first second (take (first .1) recent ++ xs)) b in
+    omega (arith, ints) ∙ c .price-from .ensures
+    ∙ ap (λ (xs : List ℤ). priceFrom h first second (xs ++ take (c .from-2 .result - 0) distant)) a
+    ∙ ap (λ (xs : List ℤ). priceFrom h first second (take (first .1) recent ++ xs)) b in
     read-price h (both g (c .args .source .now) (c .args .path) (c .args .slot)) first second recent distant z r value

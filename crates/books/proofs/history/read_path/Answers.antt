@@ -1,7 +1,6 @@
 use Prim.Native.Nat.{ℕ}
 use mathlib.Core.List.{List}
 use mathlib.Core.Path.{_≡_, sym, ap, subst, _∙_}
-use native.Mathlib.Omega.{arith}
 use lib.IntN.{ℤ}
 use lib.ListN.{length, take}
 use Rattle.std.proofs.shelf.Results.{err-from-errBy}
@@ -13,7 +12,7 @@ use Rattle.hours.specs.declared.period.Slot.{Slot}
 use Rattle.books.specs.Differences.{differences, summed, summedYears, Small}
 use Rattle.books.specs.Histories.{pathYears}
 use Rattle.books.specs.declared.key.Path.{Path}
-use Rattle.books.proofs.PathYears.{Laws, There, there, filled-err, filled-ok, gained-err, gained-ok, first-missing, second-missing, third-missing, fourth-missing, all-there, front-of, losses-at-front, lost-none, lost-both, small-written}
+use Rattle.books.proofs.PathYears.{There, there, filled-err, filled-ok, gained-err, gained-ok, first-missing, second-missing, third-missing, fourth-missing, all-there, front-of, losses-at-front, lost-none, lost-both, small-written}
 use Rattle.books.proofs.history.read_path.Given as given
 use Rattle.books.proofs.history.read_path.Needs as need
 
@@ -93,7 +92,6 @@ returns-in-Break-second g c =
     let e : both g self p s ≡ Err x = fourth-missing (years g self) p s (a .0) (b .0) (d .0) x (a .1) (b .1) (d .1) (gained-err (year g self (p .sink) s 1) _ x (c .in-Break-second .ensures tt .answer)) in
     record { answer = q .1 ∙ ap Err (q .2) ∙ sym (ap summedYears e); after = lost-none (both g self p s) x _ _ e }
 
-
 -- the source's prices stand at the front of their buffer, as many as the sink has
 front : (g : given.Over) (self : g .S .Denot) (p : Path) (s : Slot) (y : ℕ) (xs zs buffer out : List ℤ) → year g self (p .source) s y ≡ Ok xs → year g self (p .sink) s y ≡ Ok zs → out ≡ written (year g self (p .source) s y) buffer → take (length zs) out ≡ xs
 front g self p s y xs zs buffer out a b same =
@@ -118,6 +116,6 @@ returns g c =
     record {
       answer = ap (λ (y : ℤ × ℕ). Ok (y, c .in-Continue-second .second)) first ∙ ap (λ (y : ℤ × ℕ). Ok (summed (differences (d .0) (a .0)), y)) second ∙ sym (ap summedYears e);
       after = lost-both (both g self p s) (differences (d .0) (a .0)) (differences (f .0) (b .0)) _ _ e
-        (losses-at-front (year g self (p .sink) s 0) (d .0) recent (a .0) _ (d .1) (c .in-Continue-first .ensures tt .after) h)
-        (losses-at-front (year g self (p .sink) s 1) (f .0) distant (b .0) _ (f .1) (c .in-Continue-second .ensures tt .after) k)
+          (losses-at-front (year g self (p .sink) s 0) (d .0) recent (a .0) _ (d .1) (c .in-Continue-first .ensures tt .after) h)
+          (losses-at-front (year g self (p .sink) s 1) (f .0) distant (b .0) _ (f .1) (c .in-Continue-second .ensures tt .after) k);
     }

@@ -29,7 +29,7 @@ returns-in-Break-n g c =
     let e = filled-err y (c .in-Break-n .field-0 .0) (c .in-Break-n .ensures tt .answer) in
     record {
       answer = p .1 ∙ ap Err (p .2) ∙ sym (ap (λ (r : Result (List ℤ) Fault). gained r (c .args .prices .now)) e);
-      after = sym (ap (λ (r : Result (List ℤ) Fault). lost r (c .args .prices .now)) e)
+      after = sym (ap (λ (r : Result (List ℤ) Fault). lost r (c .args .prices .now)) e);
     }
 
 pub subtract-requires : need.subtract-requires
@@ -44,7 +44,7 @@ subtract-requires g c κs =
     record {
       few = omega arith;
       small-sinks = subst (Small 200000) (sym (c .in-Continue-n .ensures tt .after)) (small-written 200000 y _ (λ zs e. known zs e .small) (small-zeros 200000 9000));
-      small-sources = c .pre
+      small-sources = c .pre;
     }
 
 pub returns : need.returns
@@ -56,9 +56,9 @@ returns g c =
     let zs = f .0 in
     let front = front-of y zs _ (c .fill .last .buffer) n (f .1) (c .in-Continue-n .ensures tt .after) (f .2) in
     let same : differences (take n (c .fill .last .buffer)) (take n prices) ≡ differences zs (take (length zs) prices) =
-      ap (λ (xs : List ℤ). differences xs (take n prices)) front ∙ ap (λ (k : ℕ). differences zs (take k prices)) (f .2) in
+    ap (λ (xs : List ℤ). differences xs (take n prices)) front ∙ ap (λ (k : ℕ). differences zs (take k prices)) (f .2) in
     record {
       answer = ap Ok (c .subtract .ensures .answer ∙ ap summed same) ∙ sym (ap (λ (r : Result (List ℤ) Fault). gained r prices) (f .1));
       after = c .subtract .ensures .after ∙ ap (λ (ds : List ℤ). losses ds ++ drop n prices) same ∙ ap (λ (k : ℕ). losses (differences zs (take (length zs) prices)) ++ drop k prices) (f .2)
-        ∙ sym (ap (λ (r : Result (List ℤ) Fault). lost r prices) (f .1))
+          ∙ sym (ap (λ (r : Result (List ℤ) Fault). lost r prices) (f .1));
     }

@@ -1,12 +1,12 @@
 use mathlib.Core.Path.{_≡_, sym, ap, subst, _∙_}
-use Prim.Native.Nat.{ℕ, _<_}
+use Prim.Native.Nat.{_<_}
 use native.Mathlib.Omega.{arith}
 use lib.IntN.{ℤ, pos, _*ℤ_}
 use mir.Syntax.{w64}
 use mir.Val.{toZ, ofZ}
 use Rattle.std.proofs.shelf.Signed.{ints}
 use Rattle.hours.specs.Bounds.{Within}
-use Rattle.books.specs.Histories.{numerator, denominator, floored, meanAhead}
+use Rattle.books.specs.Histories.{numerator, floored, meanAhead}
 use Rattle.books.proofs.Fractions.{ahead-within, divisor-above}
 use Rattle.books.proofs.mean.mean_ahead.Needs as need
 

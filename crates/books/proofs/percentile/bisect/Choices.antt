@@ -1,6 +1,5 @@
 use Prim.Native.Nat.{_≤_}
 use mathlib.Core.List.{_++_}
-use mathlib.Core.Path.{_≡_}
 use lib.IntN.{ℤ, pos, negℤ, natAbs, _-ℤ_}
 use lib.Signed.{_≤ℤ_, _<ℤ_}
 use Rattle.books.specs.Percentiles.{Reaches}

@@ -9,7 +9,6 @@ use Rattle.std.proofs.shelf.Signed.{ints}
 use Rattle.std.specs.Numbers.{maxZ}
 use Rattle.hours.specs.Bounds.{Within}
 use Rattle.books.specs.Histories.{stressOf}
-use Rattle.books.specs.Percentiles.{percentileOf}
 use Rattle.books.proofs.Hourly.{small-append}
 use Rattle.books.proofs.Least.{percentile-none, percentile-value, percentile-within, rankable-from}
 use Rattle.books.proofs.Products.{max-within}
