@@ -7,7 +7,7 @@ use lib.ListN.{length, take, drop}
 use Rattle.std.proofs.shelf.Lists.{length-take-le}
 use Rattle.std.proofs.shelf.Signed.{ints}
 use Rattle.books.specs.Differences.{differences, total, losses}
-use Rattle.books.proofs.Hourly.{length-differences, total-more, next-is, loss-more}
+use Rattle.books.proofs.Hourly.{difference-fits, difference-is, length-differences, loss-fits, loss-is, loss-more, next-is, sum-more, total-more}
 use Rattle.books.proofs.difference.subtract.Needs as need
 
 pub sub-d : need.sub-d
@@ -18,9 +18,7 @@ sub-d c =
     let h : i < length xs = omega arith in
     let k : i < length ys = omega arith in
     let here = next-is xs ys i h k (c .loop-i .sources) (c .loop-i .inv .0) in
-    let a = c .pre .small-sinks i h in
-    let b = c .pre .small-sources i k in
-    omega (arith, ints)
+    difference-fits _ _ _ (c .pre .small-sinks i h) (c .pre .small-sources i k) here
 
 pub sub-sources : need.sub-sources
 sub-sources c =
@@ -30,9 +28,7 @@ sub-sources c =
     let h : i < length xs = omega arith in
     let k : i < length ys = omega arith in
     let here = next-is xs ys i h k (c .loop-i .sources) (c .loop-i .inv .0) in
-    let a = c .pre .small-sinks i h in
-    let b = c .pre .small-sources i k in
-    omega (arith, ints)
+    loss-fits _ _ _ (c .pre .small-sinks i h) (c .pre .small-sources i k) here
 
 pub loop-i-again : need.loop-i-again
 loop-i-again c =
@@ -44,8 +40,10 @@ loop-i-again c =
     let here = next-is xs ys i h k (c .loop-i .sources) (c .loop-i .inv .0) in
     let a = c .pre .small-sinks i h in
     let b = c .pre .small-sources i k in
-    let more = total-more xs ys i h k in
-    (loss-more xs ys i h k (c .loop-i .sources) _ (c .loop-i .inv .0) (omega (arith, ints)), omega (arith, ints), omega (arith, ints), omega (arith, ints))
+    let few : i < 9000 = omega arith in
+    let d = c .from-sum .ensures ∙ difference-is _ _ _ a b here in
+    let r = sum-more _ _ _ a b here _ (c .from-sum .result) _ _ i few (c .loop-i .inv .2) (c .loop-i .inv .3) (c .loop-i .inv .1) (total-more xs ys i h k) d in
+    (loss-more xs ys i h k (c .loop-i .sources) _ (c .loop-i .inv .0) (loss-is _ _ _ a b here), r .0, r .1, r .2)
 
 pub returns : need.returns
 returns c =
