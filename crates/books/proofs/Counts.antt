@@ -6,9 +6,11 @@ use mathlib.Core.Logic.{⊎-elim}
 use mathlib.Core.Path.{_≡_, refl, sym, ap, _∙_}
 use native.Mathlib.Nat.{mul-le-mul-right}
 use native.Mathlib.Omega.{arith}
-use lib.IntN.{ℤ, pos, _-ℤ_}
+use lib.IntN.{ℤ, pos, negℤ, _+ℤ_, _-ℤ_}
 use lib.ListN.{length}
-use lib.Signed.{leZ, _≤ℤ_, _<ℤ_}
+use lib.Signed.{leZ, ltZ, quotZ, _≤ℤ_, _<ℤ_}
+use mir.Syntax.{w32, w64}
+use mir.Val.{toZ, ofZ}
 use Rattle.std.proofs.shelf.Elements.{all-append, all-weaker}
 use Rattle.std.proofs.shelf.Signed.{ints, folded-minZ-bounds, folded-maxZ-bounds}
 use Rattle.std.proofs.shelf.Tests.{cases-lt, leb-true}
@@ -108,3 +110,51 @@ highs a xs ys =
 pub spread : (low high : ℤ) (xs : List ℤ) → 0 < length xs → All (λ x. low ≤ℤ x) xs → All (λ x. x ≤ℤ high) xs → low ≤ℤ high
 spread low high [] h a b = absurd (omega arith)
 spread low high (x ∷ xs) h a b = let l = a .0 in let u = b .0 in omega (arith, ints)
+
+-- the middle of two numbers of 32 bits, computed in 64
+module _ (low high : ℤ) (l : negℤ (pos 2147483648) ≤ℤ low) (o : ltZ low high ≡ true) (u : high ≤ℤ pos 2147483647) where
+  abbrev middle : ℤ
+  middle = toZ w64 (ofZ w64 (low +ℤ toZ w64 (ofZ w64 (quotZ (toZ w64 (ofZ w64 (high -ℤ low))) (pos 2)))))
+
+  abbrev next : ℤ
+  next = toZ w64 (ofZ w64 (middle +ℤ pos 1))
+
+  pub middle-from : low ≤ℤ middle
+  middle-from = omega (arith, ints)
+
+  middle-below : middle <ℤ high
+  middle-below = omega (arith, ints)
+
+  -- numbers of 32 bits
+  narrow : (m : ℤ) → low ≤ℤ m → m <ℤ high → toZ w32 (ofZ w32 m) ≡ m
+  narrow m a b = omega (arith, ints)
+
+  one-above : (m : ℤ) → low ≤ℤ m → m <ℤ high → toZ w64 (ofZ w64 (m +ℤ pos 1)) ≡ m +ℤ pos 1
+  one-above m a b = omega (arith, ints)
+
+  pub middle-is : toZ w32 (ofZ w32 middle) ≡ middle
+  middle-is = narrow middle middle-from middle-below
+
+  pub middle-to : middle ≤ℤ pos 2147483647
+  middle-to = by middle middle-below
+    where
+      by : (m : ℤ) → m <ℤ high → m ≤ℤ pos 2147483647
+      by m b = omega (arith, ints)
+
+  pub next-from : negℤ (pos 2147483648) ≤ℤ next
+  next-from = by middle next middle-from (one-above middle middle-from middle-below)
+    where
+      by : (m n : ℤ) → low ≤ℤ m → n ≡ m +ℤ pos 1 → negℤ (pos 2147483648) ≤ℤ n
+      by m n a e = omega (arith, ints)
+
+  pub next-to : next ≤ℤ high
+  next-to = by middle next middle-below (one-above middle middle-from middle-below)
+    where
+      by : (m n : ℤ) → m <ℤ high → n ≡ m +ℤ pos 1 → n ≤ℤ high
+      by m n b e = omega (arith, ints)
+
+  pub below-next : (w : ℤ) → w <ℤ next → w ≤ℤ toZ w32 (ofZ w32 middle)
+  below-next w h = by middle next (toZ w32 (ofZ w32 middle)) h (one-above middle middle-from middle-below) middle-is
+    where
+      by : (m n v : ℤ) → w <ℤ n → n ≡ m +ℤ pos 1 → v ≡ m → w ≤ℤ v
+      by m n v k e f = omega (arith, ints)

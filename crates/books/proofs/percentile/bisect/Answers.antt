@@ -13,7 +13,7 @@ use Rattle.std.proofs.shelf.Tests.{leb-false}
 use Rattle.std.specs.Iters.{folded}
 use Rattle.std.specs.Numbers.{minZ, maxZ}
 use Rattle.std.specs.shelf.Lists.{All}
-use Rattle.books.proofs.Counts.{below-fails, fails-below, top-reaches, percentile-is, passed-as, reaches-as, lows, highs, spread}
+use Rattle.books.proofs.Counts.{below-fails, fails-below, top-reaches, percentile-is, below-next, middle-from, middle-is, middle-to, next-from, next-to, passed-as, reaches-as, lows, highs, spread}
 use Rattle.books.proofs.percentile.bisect.Needs as need
 
 pub loop-low-holds : need.loop-low-holds
@@ -34,12 +34,18 @@ loop-low-holds c =
 
 pub loop-low-again-then-reaches : need.loop-low-again-then-reaches
 loop-low-again-then-reaches c =
-    (omega (arith, ints), omega (arith, ints), omega (arith, ints), passed-as _ _ _ _ (omega (arith, ints)) (c .if-reaches .ensures tt), c .loop-low .inv .4)
+    let l = c .loop-low .inv .0 in
+    let u = c .loop-low .inv .2 in
+    let o = c .loop-low-test .taken in
+    (l, middle-from _ _ l o u, middle-to _ _ l o u, passed-as _ _ _ _ (middle-is _ _ l o u) (c .if-reaches .ensures tt), c .loop-low .inv .4)
 
 pub loop-low-again : need.loop-low-again
 loop-low-again c =
+    let l = c .loop-low .inv .0 in
+    let u = c .loop-low .inv .2 in
+    let o = c .loop-low-test .taken in
     let fails = leb-false _ _ (sym (c .if-reaches .ensures tt)) in
-    (omega (arith, ints), omega (arith, ints), omega (arith, ints), c .loop-low .inv .3, λ w l. fails-below _ _ _ w fails (omega (arith, ints)))
+    (next-from _ _ l o u, next-to _ _ l o u, u, c .loop-low .inv .3, λ w h. fails-below _ _ _ w fails (below-next _ _ l o u w h))
 
 pub returns : need.returns
 returns c = percentile-is _ _ _ (reaches-as _ _ _ _ (omega (arith, ints)) (c .loop-low .inv .3)) (λ w l. c .loop-low .inv .4 w (omega (arith, ints)))
