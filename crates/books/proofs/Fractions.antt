@@ -4,8 +4,6 @@ use mathlib.Core.Path.{_≡_, ap, subst}
 use native.Mathlib.Nat.{mul-assoc, mul-comm, mul-right-comm, mul-pos}
 use native.Mathlib.Omega.{arith}
 use lib.IntN.{ℤ, pos, _+ℤ_, _*ℤ_}
-use mir.Syntax.{w64}
-use mir.Val.{toZ, ofZ}
 use Rattle.std.proofs.shelf.Signed.{ints}
 use Rattle.hours.specs.Bounds.{Within}
 use Rattle.books.specs.Differences.{YearSum}
@@ -24,13 +22,6 @@ crossed s m n y h =
     wider (3600000000 * n) 32400000000000 (s *ℤ pos n) (omega arith) (within-times 3600000000 n s (wider (400000 * m) 3600000000 s (omega arith) small))
 
 module _ (s1 s2 : ℤ) (n1 n2 : ℕ) (y1 : YearSum (s1, n1)) (y2 : YearSum (s2, n2)) where
-  -- three times the one product and the other, computed in 64 bits
-  pub weighted-is : (t u : ℤ) → t ≡ s1 *ℤ pos n2 → u ≡ s2 *ℤ pos n1 → (toZ w64 (ofZ w64 (toZ w64 (ofZ w64 (pos 3 *ℤ toZ w64 (ofZ w64 t))) +ℤ toZ w64 (ofZ w64 u))) ≡ numerator (s1, n1) (s2, n2)) × Within 129600000000000 (toZ w64 (ofZ w64 (toZ w64 (ofZ w64 (pos 3 *ℤ toZ w64 (ofZ w64 t))) +ℤ toZ w64 (ofZ w64 u))))
-  weighted-is t u p q =
-      let a = crossed s1 n1 n2 y1 (y2 .1) in
-      let b = crossed s2 n2 n1 y2 (y1 .1) in
-      (omega (arith, ints), omega (arith, ints))
-
   -- the mean of differences that are within 400,000 is so too
   mean-within : Within (400000 * denominator (s1, n1) (s2, n2)) (numerator (s1, n1) (s2, n2))
   mean-within =

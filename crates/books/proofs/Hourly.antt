@@ -8,7 +8,7 @@ use lib.IntN.{ℤ, pos, negℤ, _+ℤ_, _-ℤ_}
 use lib.ListN.{length, getD, set, take, drop}
 use lib.Signed.{_≤ℤ_}
 use mir.Syntax.{w32, w64}
-use mir.Val.{SFits, toZ, ofZ}
+use mir.Val.{toZ, ofZ}
 use Rattle.std.proofs.shelf.Elements.{all-from-getD, all-getD, all-append}
 use Rattle.std.proofs.shelf.Lists.{append-assoc, drop-more, getD-at, length-map, length-take-le, map-push, set-at, take-more}
 use Rattle.std.proofs.shelf.Signed.{ints}
@@ -83,24 +83,24 @@ module _ (xs ys : List ℤ) (i : ℕ) (long : i < length xs) (tall : i < length 
       ∙ ap (λ (t : List ℤ). t ++ drop (i + 1) ys) (sym (map-push negℤ front (x -ℤ y)))
       ∙ ap (λ (t : List ℤ). losses t ++ drop (i + 1) ys) (sym front-more)
 
--- one hour in the machine's numbers: v stands for the source's price y
-module _ (x y v : ℤ) (a : Within 200000 x) (b : Within 200000 y) (e : v ≡ y) where
-  pub difference-fits : SFits w32 (toZ w32 (ofZ w32 x) -ℤ toZ w32 (ofZ w32 v))
-  difference-fits = omega (arith, ints)
+-- one hour in the machine's numbers: the price v is y, and d is the difference
+pub price-kept : (y v : ℤ) → Within 200000 y → v ≡ y → Within 200000 (toZ w32 (ofZ w32 v))
+price-kept y v b e = (omega (arith, ints), omega (arith, ints))
 
-  pub difference-is : toZ w32 (ofZ w32 (toZ w32 (ofZ w32 x) -ℤ toZ w32 (ofZ w32 v))) ≡ x -ℤ y
+module _ (x y v d : ℤ) (a : Within 200000 x) (b : Within 200000 y) (e : v ≡ y) (value : d ≡ toZ w32 (ofZ w32 x) -ℤ toZ w32 (ofZ w32 v)) where
+  pub difference-is : d ≡ x -ℤ y
   difference-is = omega (arith, ints)
 
-  pub loss-fits : SFits w32 (pos 0 -ℤ toZ w32 (ofZ w32 (toZ w32 (ofZ w32 x) -ℤ toZ w32 (ofZ w32 v))))
-  loss-fits = omega (arith, ints)
+  pub difference-kept : toZ w32 (ofZ w32 d) ≡ x -ℤ y
+  difference-kept = omega (arith, ints)
 
-  pub loss-is : toZ w32 (ofZ w32 (pos 0 -ℤ toZ w32 (ofZ w32 (toZ w32 (ofZ w32 x) -ℤ toZ w32 (ofZ w32 v))))) ≡ negℤ (x -ℤ y)
+  pub loss-is : toZ w32 (ofZ w32 (pos 0 -ℤ toZ w32 (ofZ w32 d))) ≡ negℤ (x -ℤ y)
   loss-is = omega (arith, ints)
 
-  -- the sum with one hour more
-  pub sum-more : (sum d front next : ℤ) (i : ℕ) → i < 9000 → negℤ (pos (400000 * i)) ≤ℤ sum → sum ≤ℤ pos (400000 * i) → sum ≡ front → next ≡ front +ℤ (x -ℤ y) → d ≡ x -ℤ y →
-      (toZ w64 (ofZ w64 (sum +ℤ toZ w64 (ofZ w64 d))) ≡ next) × (negℤ (pos (400000 * (i + 1))) ≤ℤ toZ w64 (ofZ w64 (sum +ℤ toZ w64 (ofZ w64 d)))) × (toZ w64 (ofZ w64 (sum +ℤ toZ w64 (ofZ w64 d))) ≤ℤ pos (400000 * (i + 1)))
-  sum-more sum d front next i few low high so then here = (omega (arith, ints), omega (arith, ints), omega (arith, ints))
+-- the sum with one hour more, in the machine's numbers
+pub sum-more : (d sum wide front next : ℤ) (i : ℕ) → i < 9000 → Within 400000 d → negℤ (pos (400000 * i)) ≤ℤ sum → sum ≤ℤ pos (400000 * i) → wide ≡ d → sum ≡ front → next ≡ front +ℤ d →
+    (toZ w64 (ofZ w64 (sum +ℤ toZ w64 (ofZ w64 wide))) ≡ next) × (negℤ (pos (400000 * (i + 1))) ≤ℤ toZ w64 (ofZ w64 (sum +ℤ toZ w64 (ofZ w64 wide)))) × (toZ w64 (ofZ w64 (sum +ℤ toZ w64 (ofZ w64 wide))) ≤ℤ pos (400000 * (i + 1)))
+sum-more d sum wide front next i few small low high same so then = (omega (arith, ints), omega (arith, ints), omega (arith, ints))
 
 -- differences of prices within b are within twice that, and so are the losses and, hour by hour, the sum
 all-differences : (b : ℕ) (xs ys : List ℤ) → All (Within b) xs → All (Within b) ys → All (Within (2 * b)) (differences xs ys)

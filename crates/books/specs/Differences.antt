@@ -29,6 +29,7 @@ summed ds = (total ds, length ds)
 abbrev pub losses : List ℤ → List ℤ
 losses ds = map negℤ ds
 
+-- The rest is of years as they are read: what bounds them, and where they stand in buffers.
 -- every number lies between -b and b
 abbrev pub Small : ℕ → List ℤ → Type 0
 Small b xs = (k : ℕ) → k < length xs → Within b (getD xs k (pos 0))

@@ -1,10 +1,22 @@
 //! The differences of a path over the hours of a year.
 ghost use Prim.Native.Nat.{_≤_};
 ghost use Rattle.books.specs.Differences.{differences, summed, losses, Small};
+ghost use Rattle.hours.specs.Bounds.{Within};
+ghost use lib.IntN.{_-ℤ_};
 ghost use lib.ListN.{take, drop};
 ghost use mathlib.Core.List.{_++_};
 ghost use mathlib.Core.Path.{_≡_};
 use hours::MOST_HOURS;
+
+/// What a path pays in one hour.
+fn difference(sink: i32, source: i32) -> i32
+    requires sink { ⌜ Within 200000 sink ⌝ }
+    requires source { ⌜ Within 200000 source ⌝ }
+    ensures value { λ r. ⌜ r ≡ sink -ℤ source ⌝ }
+    ensures small { λ r. ⌜ Within 400000 r ⌝ }
+{
+    sink - source
+}
 
 /// Takes the source's prices from the sink's, hour by hour. The sum and the number of the
 /// differences come back, and the losses, their opposites, are left where the source's prices stood.
@@ -21,7 +33,7 @@ pub(crate) fn subtract(
 {
     let mut sum: i64 = 0;
     for i in 0..usize::from(hours) {
-        let d = sinks[i] - sources[i];
+        let d = difference(sinks[i], sources[i]);
         sum += i64::from(d);
         sources[i] = -d;
     }

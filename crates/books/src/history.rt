@@ -83,7 +83,7 @@ fn read_path<S: HourSource>(
     Ok((first, second))
 }
 
-/// What is left of the mean.
+/// The mean, less what may be lost.
 fn less(mean: i64, stress: i64) -> i64
     requires mean { ⌜ Within 3600000000 mean ⌝ }
     requires stress { ⌜ Within 3600000000 stress ⌝ }

@@ -3,7 +3,7 @@ ghost use Prim.Native.Nat.{_*_, _<_, _≤_};
 ghost use Rattle.books.specs.Differences.{YearSum};
 ghost use Rattle.books.specs.Histories.{numerator, denominator, floored, meanAhead};
 ghost use Rattle.hours.specs.Bounds.{Within};
-ghost use lib.IntN.{pos, _*ℤ_};
+ghost use lib.IntN.{pos, _+ℤ_, _*ℤ_};
 ghost use mathlib.Core.Path.{_≡_};
 
 /// A product that 64 bits have room for: the greatest factor is the numerator of a mean.
@@ -24,14 +24,24 @@ fn product(a: u16, b: u16) -> u32
     u32::from(a) * u32::from(b)
 }
 
-/// What the mean is a fraction of: the recent year weighs three times as much as the distant one.
+/// The recent year weighs three times as much as the distant one.
+fn weigh(recent: i64, distant: i64) -> i64
+    requires recent { ⌜ Within 32400000000000 recent ⌝ }
+    requires distant { ⌜ Within 32400000000000 distant ⌝ }
+    ensures value { λ r. ⌜ r ≡ pos 3 *ℤ recent +ℤ distant ⌝ }
+    ensures small { λ r. ⌜ Within 129600000000000 r ⌝ }
+{
+    3 * recent + distant
+}
+
+/// What the mean is a fraction of.
 pub(crate) fn weighted(recent: (i64, u16), distant: (i64, u16)) -> i64
     requires recent { ⌜ YearSum recent ⌝ }
     requires distant { ⌜ YearSum distant ⌝ }
     ensures value { λ r. ⌜ r ≡ numerator recent distant ⌝ }
     ensures small { λ r. ⌜ Within 129600000000000 r ⌝ }
 {
-    3 * times(recent.0, distant.1) + times(distant.0, recent.1)
+    weigh(times(recent.0, distant.1), times(distant.0, recent.1))
 }
 
 fn divisor(recent: (i64, u16), distant: (i64, u16)) -> u32
