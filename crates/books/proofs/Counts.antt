@@ -13,7 +13,7 @@ use mir.Syntax.{w32, w64}
 use mir.Val.{toZ, ofZ}
 use Rattle.std.proofs.shelf.Elements.{all-append, all-weaker}
 use Rattle.std.proofs.shelf.Signed.{ints, folded-minZ-bounds, folded-maxZ-bounds}
-use Rattle.std.proofs.shelf.Tests.{cases-lt, leb-true}
+use Rattle.std.proofs.shelf.Tests.{cases-lt, leb-false, leb-true}
 use Rattle.std.specs.Iters.{folded}
 use Rattle.std.specs.Numbers.{minZ, maxZ}
 use Rattle.std.specs.shelf.Lists.{All}
@@ -87,6 +87,9 @@ percentile-is p xs v r f =
 -- a number that reaches, written in another way
 pub passed-as : (p : ℕ) (xs : List ℤ) (u v : ℤ) → u ≡ v → true ≡ reached p xs u → Reaches p xs v
 passed-as p xs u v e h = leb-true _ _ (ap (reached p xs) (sym e) ∙ sym h)
+
+pub failed : (p : ℕ) (xs : List ℤ) (v : ℤ) → false ≡ reached p xs v → 100 * atMost v xs < p * length xs
+failed p xs v h = leb-false _ _ (sym h)
 
 pub reaches-as : (p : ℕ) (xs : List ℤ) (u v : ℤ) → u ≡ v → Reaches p xs u → Reaches p xs v
 reaches-as p xs u v e h = let same = ap (λ (z : ℤ). atMost z xs) e in omega arith

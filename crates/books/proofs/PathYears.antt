@@ -178,8 +178,8 @@ path-facts hours locations prices laws p s ds h = go (year (p .source) 0) (year 
         (subst Differ (ap (λ (t : List ℤ × List ℤ). t .0) same) (both (hours s 0) x z (ka x refl) (kc z refl)), subst Differ (ap (λ (t : List ℤ × List ℤ). t .1) same) (both (hours s 1) y w (kb y refl) (kd w refl)))
 
 -- some hours are those of the slot and year
-pub hours-are : (hours : Slot → ℕ → ℕ) (s : Slot) (y n : ℕ) → someHours hours s y ≡ Ok n → n ≡ hours s y
-hours-are hours s y n h = lawful (lawfulSlot s && lawfulYear y) h
+pub hours-are : (hours : Slot → ℕ → ℕ) (s : Slot) (y n : ℕ) → Ok n ≡ someHours hours s y → n ≡ hours s y
+hours-are hours s y n h = lawful (lawfulSlot s && lawfulYear y) (sym h)
   where
     some : (b : Bool) → cond b (Err (noHours y)) (Ok (hours s y)) ≡ Ok n → n ≡ hours s y
     some true q = clash n (noHours y) (sym q)
@@ -207,7 +207,7 @@ history-bounded hours locations prices laws k = go (lawfulKey k)
     at : (h : ℕ) → someHours hours (k .slot) 2 ≡ Ok h → made (pricedYears h (pathYears (yearOf locations prices) (k .path) (k .slot))) (Within 8000000000)
     at h e =
         made-bind (pathYears (yearOf locations prices) (k .path) (k .slot)) _ (Within 8000000000)
-        (λ years q. let f = path-facts hours locations prices laws (k .path) (k .slot) years q in price-within h (years .0) (years .1) (omega (arith, hours-are hours (k .slot) 2 h e, laws .few (k .slot) 2)) (f .0) (f .1))
+        (λ years q. let f = path-facts hours locations prices laws (k .path) (k .slot) years q in price-within h (years .0) (years .1) (omega (arith, hours-are hours (k .slot) 2 h (sym e), laws .few (k .slot) 2)) (f .0) (f .1))
 
     go : (b : Bool) → made (cond b (bind (someHours hours (k .slot) 0) (λ _. bind (someHours hours (k .slot) 1) (λ _. bind (someHours hours (k .slot) 2) (λ h. pricedYears h (pathYears (yearOf locations prices) (k .path) (k .slot)))))) (Err unlawfulKey)) (Within 8000000000)
     go false = tt

@@ -40,7 +40,7 @@ returns-in-Break-fill g c =
     let x = c .in-Break-fill .field-0 .0 in
     let q = err-from-errBy (c .from-residual .result) (c .from-residual .ensures .1) in
     let e : both g self p s ≡ Err x = first-missing (years g self) p s x (filled-err (year g self (p .source) s 0) x (c .in-Break-fill .ensures tt .answer)) in
-    record { answer = q .1 ∙ ap Err (q .2) ∙ sym (ap summedYears e); after = lost-none (both g self p s) x _ _ e }
+    record { answer = q .1 ∙ ap Err (q .2) ∙ sym (ap summedYears e); after = lost-none (both g self p s) x (c .fill .last .buffer) (c .args .distant .now) e }
 
 pub returns-in-Break-fill-2 : need.returns-in-Break-fill-2
 returns-in-Break-fill-2 g c =
@@ -51,7 +51,7 @@ returns-in-Break-fill-2 g c =
     let q = err-from-errBy (c .from-residual-in-Break-fill-2 .result) (c .from-residual-in-Break-fill-2 .ensures .1) in
     let a = filled-ok (year g self (p .source) s 0) _ (c .in-Continue-fill .ensures tt .answer) in
     let e : both g self p s ≡ Err x = second-missing (years g self) p s (a .0) x (a .1) (filled-err (year g self (p .source) s 1) x (c .in-Break-fill-2 .ensures tt .answer)) in
-    record { answer = q .1 ∙ ap Err (q .2) ∙ sym (ap summedYears e); after = lost-none (both g self p s) x _ _ e }
+    record { answer = q .1 ∙ ap Err (q .2) ∙ sym (ap summedYears e); after = lost-none (both g self p s) x (c .fill .last .buffer) (c .fill-2 .last .buffer) e }
 
 pub year-between-requires : need.year-between-requires
 year-between-requires g c κs =
@@ -70,7 +70,7 @@ returns-in-Break-first g c =
     let a = filled-ok (year g self (p .source) s 0) _ (c .in-Continue-fill .ensures tt .answer) in
     let b = filled-ok (year g self (p .source) s 1) _ (c .in-Continue-fill-2 .ensures tt .answer) in
     let e : both g self p s ≡ Err x = third-missing (years g self) p s (a .0) (b .0) x (a .1) (b .1) (gained-err (year g self (p .sink) s 0) _ x (c .in-Break-first .ensures tt .answer)) in
-    record { answer = q .1 ∙ ap Err (q .2) ∙ sym (ap summedYears e); after = lost-none (both g self p s) x _ _ e }
+    record { answer = q .1 ∙ ap Err (q .2) ∙ sym (ap summedYears e); after = lost-none (both g self p s) x (c .year-between .last .prices) (c .fill-2 .last .buffer) e }
 
 pub year-between-requires-2 : need.year-between-requires-2
 year-between-requires-2 g c κs =
@@ -90,7 +90,7 @@ returns-in-Break-second g c =
     let b = filled-ok (year g self (p .source) s 1) _ (c .in-Continue-fill-2 .ensures tt .answer) in
     let d = gained-ok (year g self (p .sink) s 0) _ _ (c .in-Continue-first .ensures tt .answer) in
     let e : both g self p s ≡ Err x = fourth-missing (years g self) p s (a .0) (b .0) (d .0) x (a .1) (b .1) (d .1) (gained-err (year g self (p .sink) s 1) _ x (c .in-Break-second .ensures tt .answer)) in
-    record { answer = q .1 ∙ ap Err (q .2) ∙ sym (ap summedYears e); after = lost-none (both g self p s) x _ _ e }
+    record { answer = q .1 ∙ ap Err (q .2) ∙ sym (ap summedYears e); after = lost-none (both g self p s) x (c .year-between .last .prices) (c .year-between-2 .last .prices) e }
 
 -- the source's prices stand at the front of their buffer, as many as the sink has
 front : (g : given.Over) (self : g .S .Denot) (p : Path) (s : Slot) (y : ℕ) (xs zs buffer out : List ℤ) → year g self (p .source) s y ≡ Ok xs → year g self (p .sink) s y ≡ Ok zs → out ≡ written (year g self (p .source) s y) buffer → take (length zs) out ≡ xs
@@ -115,7 +115,7 @@ returns g c =
     let e : both g self p s ≡ Ok (differences (d .0) (a .0), differences (f .0) (b .0)) = all-there (years g self) p s (a .0) (b .0) (d .0) (f .0) (a .1) (b .1) (d .1) (f .1) in
     record {
       answer = ap (λ (y : ℤ × ℕ). Ok (y, c .in-Continue-second .second)) first ∙ ap (λ (y : ℤ × ℕ). Ok (summed (differences (d .0) (a .0)), y)) second ∙ sym (ap summedYears e);
-      after = lost-both (both g self p s) (differences (d .0) (a .0)) (differences (f .0) (b .0)) _ _ e
-          (losses-at-front (year g self (p .sink) s 0) (d .0) recent (a .0) _ (d .1) (c .in-Continue-first .ensures tt .after) h)
-          (losses-at-front (year g self (p .sink) s 1) (f .0) distant (b .0) _ (f .1) (c .in-Continue-second .ensures tt .after) k);
+      after = lost-both (both g self p s) (differences (d .0) (a .0)) (differences (f .0) (b .0)) (c .year-between .last .prices) (c .year-between-2 .last .prices) e
+          (losses-at-front (year g self (p .sink) s 0) (d .0) recent (a .0) (c .year-between .last .prices) (d .1) (c .in-Continue-first .ensures tt .after) h)
+          (losses-at-front (year g self (p .sink) s 1) (f .0) distant (b .0) (c .year-between-2 .last .prices) (f .1) (c .in-Continue-second .ensures tt .after) k);
     }

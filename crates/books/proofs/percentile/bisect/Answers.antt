@@ -9,11 +9,10 @@ use mir.Syntax.{w32, w64}
 use mir.Val.{toZ, ofZ}
 use Rattle.std.proofs.shelf.Lists.{length-append}
 use Rattle.std.proofs.shelf.Signed.{ints}
-use Rattle.std.proofs.shelf.Tests.{leb-false}
 use Rattle.std.specs.Iters.{folded}
 use Rattle.std.specs.Numbers.{minZ, maxZ}
 use Rattle.std.specs.shelf.Lists.{All}
-use Rattle.books.proofs.Counts.{below-fails, fails-below, top-reaches, percentile-is, below-next, middle-from, middle-is, middle-to, next-from, next-to, passed-as, reaches-as, lows, highs, spread}
+use Rattle.books.proofs.Counts.{below-fails, failed, fails-below, top-reaches, percentile-is, below-next, middle-from, middle-is, middle-to, next-from, next-to, passed-as, reaches-as, lows, highs, spread}
 use Rattle.books.proofs.percentile.bisect.Needs as need
 
 pub loop-low-holds : need.loop-low-holds
@@ -44,7 +43,7 @@ loop-low-again c =
     let l = c .loop-low .inv .0 in
     let u = c .loop-low .inv .2 in
     let o = c .loop-low-test .taken in
-    let fails = leb-false _ _ (sym (c .if-reaches .ensures tt)) in
+    let fails = failed _ _ _ (c .if-reaches .ensures tt) in
     (next-from _ _ l o u, next-to _ _ l o u, u, c .loop-low .inv .3, λ w h. fails-below _ _ _ w fails (below-next _ _ l o u w h))
 
 pub returns : need.returns
