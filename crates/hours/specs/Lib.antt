@@ -6,3 +6,8 @@ pub mod Lookups
 pub mod Means
 pub mod StandIns
 pub mod Refusals
+pub mod RecordedEntries
+pub mod RecordedFormat
+pub mod RecordedTables
+pub mod RecordedReading
+pub mod RecordedSpans

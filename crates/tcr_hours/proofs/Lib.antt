@@ -1,0 +1,3 @@
+pub mod Orders
+pub mod Slots
+pub mod Verdicts
