@@ -5,4 +5,3 @@ pub mod Products
 pub mod Hourly
 pub mod Fractions
 pub mod PathYears
-mod Figures
