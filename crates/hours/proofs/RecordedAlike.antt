@@ -2,14 +2,14 @@
 use mathlib.Core.Path.{_≡_, refl, sym, ap, _∙_, subst}
 use mathlib.Core.List.{List, [], _∷_, _++_}
 use mathlib.Core.Bool.{Bool, true, false, cond}
-use Prim.Native.Nat.{ℕ, zero, suc, _+_, _<_, _≤_}
+use Prim.Native.Nat.{ℕ, zero, suc, _+_, _<_}
 use native.Mathlib.Omega.{arith}
 use lib.Dec.{leb, ltb}
 use lib.IntN.{ℤ, pos, natAbs}
 use lib.Signed.{leZ}
-use lib.ListN.{length, take, drop, getD}
+use lib.ListN.{length, take, drop}
 use Rattle.std.proofs.shelf.Lists.{drop-at, drop-drop}
-use Rattle.std.proofs.shelf.Tests.{cond-true, le-leb, lt-ltb, le-ltb}
+use Rattle.std.proofs.shelf.Tests.{lt-ltb, le-ltb}
 use Rattle.std.proofs.shelf.Ways.{tells}
 use Rattle.std.specs.Options.{isSome}
 use Rattle.std.specs.declared.option.Option.{Option}
@@ -21,8 +21,8 @@ use Rattle.hours.specs.declared.recorded.entry.Entry.{Entry}
 use Rattle.hours.specs.declared.recorded.entry.Head.{Head}
 use Rattle.hours.specs.declared.recorded.tables.Tables.{Tables}
 use Rattle.hours.specs.RecordedEntries.{andThen, entryFrom, headFrom, fitting, hoursBy, lawfulPrice, LawfulSeries}
-use Rattle.hours.specs.RecordedFormat.{andThenOk, orRefused, Memory, Left, Prices, Taken, Records, lists, noRecords, countsAmong, pricesAmong, unlisted, entryAt, readEntries, readPrices, headAt, pricesAfter, yearAt, readYears, nothingMore, secondSection, onward, bothSections, records, checked, orInstead, recordsOf}
-use Rattle.hours.specs.RecordedTables.{tabledCounts, startOf, hasStart, withEntry, withSeries, inTables, emptyTables, tablesRead, tablesOf}
+use Rattle.hours.specs.RecordedFormat.{andThenOk, orRefused, Prices, Taken, Records, lists, noRecords, countsAmong, pricesAmong, unlisted, entryAt, readEntries, readPrices, headAt, pricesAfter, yearAt, readYears, nothingMore, secondSection, onward, bothSections, records, checked, orInstead, recordsOf}
+use Rattle.hours.specs.RecordedTables.{tabledCounts, hasStart, withEntry, withSeries, inTables, emptyTables, tablesRead, tablesOf}
 use Rattle.hours.proofs.RecordedLawful.{not-none, through, passed, entry-lawful, entry-few, head-lawful}
 use Rattle.hours.proofs.RecordedTables.{Stands, Near, Same, same-none, same-entry, same-year}
 
@@ -32,7 +32,7 @@ same-entry-at : (all : List ℤ) (t : Tables) (r : Records) (xs : List ℤ) → 
 same-entry-at all t r xs same = go (entryFrom (take 6 xs)) (λ e h. same .looks (e .slot) (entry-lawful (take 6 xs) e h))
   where
     go : (o : Option Entry) → ((e : Entry) → o ≡ Some e → tabledCounts t (e .slot) ≡ countsAmong (r .listed) (e .slot)) →
-         cond (leb 6 (length xs)) (andThen o (λ e. unlisted (tabledCounts t (e .slot)) (Some e))) None ≡ cond (leb 6 (length xs)) (andThen o (λ e. unlisted (countsAmong (r .listed) (e .slot)) (Some e))) None
+        cond (leb 6 (length xs)) (andThen o (λ e. unlisted (tabledCounts t (e .slot)) (Some e))) None ≡ cond (leb 6 (length xs)) (andThen o (λ e. unlisted (countsAmong (r .listed) (e .slot)) (Some e))) None
     go None h = refl
     go (Some e) h = ap (λ (l : Option Counts). cond (leb 6 (length xs)) (unlisted l (Some e)) None) (h e refl)
 
@@ -42,6 +42,7 @@ entry-found r xs e h = at-test (leb 6 (length xs)) h
     old : (o : Option Counts) (d : Entry) → unlisted o (Some d) ≡ Some e → d ≡ e
     old None d p = cc
     old (Some x) d p = not-none e p
+
     at-test : (b : Bool) → cond b (andThen (entryFrom (take 6 xs)) (λ d. unlisted (countsAmong (r .listed) (d .slot)) (Some d))) None ≡ Some e → entryFrom (take 6 xs) ≡ Some e
     at-test true p =
         let q = through (entryFrom (take 6 xs)) _ e p in
@@ -59,11 +60,11 @@ same-year-at : (all : List ℤ) (t : Tables) (r : Records) (xs : List ℤ) → S
 same-year-at all t r xs same =
     ap (λ (o : Option Head). pricesAfter o (drop 6 xs))
     (go (headFrom (take 6 xs)) (λ h e.
-      let s = head-lawful (take 6 xs) h e in
-      (same .looks (h .series .slot) (s .0 .0), same-there all _ _ (pricesAmong (r .years) (h .series)) (same .stands (h .series) (s .0)))))
+    let s = head-lawful (take 6 xs) h e in
+    (same .looks (h .series .slot) (s .0 .0), same-there all _ _ (pricesAmong (r .years) (h .series)) (same .stands (h .series) (s .0)))))
   where
     go : (o : Option Head) → ((h : Head) → o ≡ Some h → (tabledCounts t (h .series .slot) ≡ countsAmong (r .listed) (h .series .slot)) × (hasStart t (h .series) ≡ isSome (pricesAmong (r .years) (h .series)))) →
-         cond (leb 6 (length xs)) (andThen o (λ h. cond (fitting (tabledCounts t (h .series .slot)) (hasStart t (h .series)) h) (Some h) None)) None ≡ cond (leb 6 (length xs)) (andThen o (λ h. cond (fitting (countsAmong (r .listed) (h .series .slot)) (isSome (pricesAmong (r .years) (h .series))) h) (Some h) None)) None
+        cond (leb 6 (length xs)) (andThen o (λ h. cond (fitting (tabledCounts t (h .series .slot)) (hasStart t (h .series)) h) (Some h) None)) None ≡ cond (leb 6 (length xs)) (andThen o (λ h. cond (fitting (countsAmong (r .listed) (h .series .slot)) (isSome (pricesAmong (r .years) (h .series))) h) (Some h) None)) None
     go None f = refl
     go (Some h) f =
         ap (λ (l : Option Counts). cond (leb 6 (length xs)) (cond (fitting l (hasStart t (h .series)) h) (Some h) None) None) (f h refl .0)
@@ -86,8 +87,9 @@ price-facts (suc k) (x ∷ xs) p e = at-test (lawfulPrice x) refl (price-facts k
     more : (ys : List ℤ) → lawfulPrice x ≡ true → Near ys → Near (x ∷ ys)
     more ys h f zero = h
     more ys h f (suc n) = f n
+
     at-test : (b : Bool) → lawfulPrice x ≡ b → ((p : Prices) → readPrices k xs ≡ Some p → PriceFacts k xs p) →
-              cond b (andThen (readPrices k xs) (λ p. Some (record { these = x ∷ p .these; rest = p .rest }))) None ≡ Some p → PriceFacts (suc k) (x ∷ xs) p
+        cond b (andThen (readPrices k xs) (λ p. Some (record { these = x ∷ p .these; rest = p .rest }))) None ≡ Some p → PriceFacts (suc k) (x ∷ xs) p
     at-test false i again h = not-none p h
     at-test true i again h =
         let a = through (readPrices k xs) _ p h in
@@ -107,6 +109,7 @@ head-facts r xs h e = at-test (leb 6 (length xs)) e
   where
     fits : (o : Option Counts) (b : Bool) (d : Head) → fitting o b d ≡ true → (d .hours ≡ hoursBy o (d .series .year)) × (0 < d .hours)
     fits o b d q = (grind (arith, tells), grind (arith, tells))
+
     at-test : (b : Bool) → cond b (andThen (headFrom (take 6 xs)) (λ h. cond (fitting (countsAmong (r .listed) (h .series .slot)) (isSome (pricesAmong (r .years) (h .series))) h) (Some h) None)) None ≡ Some h → LawfulSeries (h .series) × (h .hours ≡ hoursBy (countsAmong (r .listed) (h .series .slot)) (h .series .year)) × (0 < h .hours)
     at-test false p = not-none h p
     at-test true p =
@@ -150,14 +153,14 @@ years-alike all zero t r line (x ∷ xs) same d = refl
 years-alike all (suc n) t r line xs same d =
     subst (λ (o : Option Taken). Alike all (andThenOk (orRefused o line (λ y. readYears inTables n (withSeries t (y .head) (y .prices)) (line + 1) (y .rest))) nothingMore) (andThenOk (orRefused (yearAt lists r xs) line (λ y. readYears lists n (lists .put r (y .head) (y .prices)) (line + 1) (y .rest))) nothingMore)) (sym (same-year-at all t r xs same))
     (go (yearAt lists r xs) (λ y h.
-      let f = year-facts r xs y h in
-      let here : drop (t .next + 6) all ≡ y .prices ++ y .rest = sym (drop-drop 6 (t .next) all) ∙ ap (drop 6) d ∙ f .split in
-      years-alike all n (withSeries t (y .head) (y .prices)) (lists .put r (y .head) (y .prices)) (line + 1) (y .rest)
-      (same-year all t r (y .head) (y .prices) (y .rest) (f .lawful) here (f .long ∙ f .count) (f .some) (f .near) same)
-      (sym (drop-drop (y .head .hours) (t .next + 6) all) ∙ ap (drop (y .head .hours)) here ∙ drop-at (y .prices) (y .rest) (y .head .hours) (f .long))))
+    let f = year-facts r xs y h in
+    let here : drop (t .next + 6) all ≡ y .prices ++ y .rest = sym (drop-drop 6 (t .next) all) ∙ ap (drop 6) d ∙ f .split in
+    years-alike all n (withSeries t (y .head) (y .prices)) (lists .put r (y .head) (y .prices)) (line + 1) (y .rest)
+    (same-year all t r (y .head) (y .prices) (y .rest) (f .lawful) here (f .long ∙ f .count) (f .some) (f .near) same)
+    (sym (drop-drop (y .head .hours) (t .next + 6) all) ∙ ap (drop (y .head .hours)) here ∙ drop-at (y .prices) (y .rest) (y .head .hours) (f .long))))
   where
     go : (o : Option Taken) → ((y : Taken) → o ≡ Some y → Alike all (andThenOk (readYears inTables n (withSeries t (y .head) (y .prices)) (line + 1) (y .rest)) nothingMore) (andThenOk (readYears lists n (lists .put r (y .head) (y .prices)) (line + 1) (y .rest)) nothingMore)) →
-         Alike all (andThenOk (orRefused o line (λ y. readYears inTables n (withSeries t (y .head) (y .prices)) (line + 1) (y .rest))) nothingMore) (andThenOk (orRefused o line (λ y. readYears lists n (lists .put r (y .head) (y .prices)) (line + 1) (y .rest))) nothingMore)
+        Alike all (andThenOk (orRefused o line (λ y. readYears inTables n (withSeries t (y .head) (y .prices)) (line + 1) (y .rest))) nothingMore) (andThenOk (orRefused o line (λ y. readYears lists n (lists .put r (y .head) (y .prices)) (line + 1) (y .rest))) nothingMore)
     go None h = refl
     go (Some y) h = h y refl
 
@@ -177,12 +180,12 @@ entries-alike all zero t r line xs same none d = second-alike all t r line xs sa
 entries-alike all (suc n) t r line xs same none d =
     subst (λ (o : Option Entry). Alike all (andThenOk (orRefused o line (λ e. readEntries inTables n (withEntry t e) (line + 1) (drop 6 xs))) (onward inTables)) (andThenOk (orRefused (entryAt lists r xs) line (λ e. readEntries lists n (lists .list r e) (line + 1) (drop 6 xs))) (onward lists))) (sym (same-entry-at all t r xs same))
     (go (entryAt lists r xs) (λ e h.
-      let w = entry-found r xs e h in
-      entries-alike all n (withEntry t e) (lists .list r e) (line + 1) (drop 6 xs) (same-entry all t r e (entry-lawful (take 6 xs) e w) (entry-few (take 6 xs) e w) none same) none
-      (sym (drop-drop 6 (t .next) all) ∙ ap (drop 6) d ∙ drop-drop 6 1 xs ∙ sym (drop-drop 1 6 xs))))
+    let w = entry-found r xs e h in
+    entries-alike all n (withEntry t e) (lists .list r e) (line + 1) (drop 6 xs) (same-entry all t r e (entry-lawful (take 6 xs) e w) (entry-few (take 6 xs) e w) none same) none
+    (sym (drop-drop 6 (t .next) all) ∙ ap (drop 6) d ∙ drop-drop 6 1 xs ∙ sym (drop-drop 1 6 xs))))
   where
     go : (o : Option Entry) → ((e : Entry) → o ≡ Some e → Alike all (andThenOk (readEntries inTables n (withEntry t e) (line + 1) (drop 6 xs)) (onward inTables)) (andThenOk (readEntries lists n (lists .list r e) (line + 1) (drop 6 xs)) (onward lists))) →
-         Alike all (andThenOk (orRefused o line (λ e. readEntries inTables n (withEntry t e) (line + 1) (drop 6 xs))) (onward inTables)) (andThenOk (orRefused o line (λ e. readEntries lists n (lists .list r e) (line + 1) (drop 6 xs))) (onward lists))
+        Alike all (andThenOk (orRefused o line (λ e. readEntries inTables n (withEntry t e) (line + 1) (drop 6 xs))) (onward inTables)) (andThenOk (orRefused o line (λ e. readEntries lists n (lists .list r e) (line + 1) (drop 6 xs))) (onward lists))
     go None h = refl
     go (Some e) h = h e refl
 

@@ -1,7 +1,7 @@
 -- What recorded hours answer, by their tables and by their records; and the laws of an hour source.
-use mathlib.Core.Path.{_≡_, refl, sym, ap, _∙_, subst}
+use mathlib.Core.Path.{_≡_, refl, sym, ap, _∙_}
 use mathlib.Core.List.{List, _++_}
-use mathlib.Core.Bool.{Bool, true, false, cond, _&&_}
+use mathlib.Core.Bool.{Bool, true, false, _&&_}
 use Prim.Native.Nat.{ℕ, _+_, _-_, _<_, _≤_, min}
 use native.Mathlib.Omega.{arith}
 use lib.Dec.{ltb}
@@ -29,7 +29,7 @@ use Rattle.hours.specs.RecordedEntries.{hoursBy, lawfulPrice, LawfulSeries}
 use Rattle.hours.specs.RecordedFormat.{recordsOf, countsIn, hoursIn, pricesIn}
 use Rattle.hours.specs.RecordedTables.{tabledCounts, startOf, hasStart, tablesOf, Sized}
 use Rattle.hours.proofs.RecordedLawful.{not-none}
-use Rattle.hours.proofs.RecordedTables.{Stands, Near, Same}
+use Rattle.hours.proofs.RecordedTables.{Stands, Same}
 use Rattle.hours.proofs.RecordedAlike.{kept-alike}
 
 abbrev pub seriesOf : ℕ → Slot → ℕ → Series
@@ -123,10 +123,12 @@ pub span-answered : (xs : List ℤ) (t : Tables) (l : ℕ) (k : Slot) (y start h
 span-answered xs t l k y start hours e a b h p q ne =
     let f = year-found xs t l k y e (series-asked l k y a b h) (λ z. ne (p ∙ z)) in
     let n : hours ≡ hoursIn (recordsOf xs) k y = q ∙ ap (λ (o : Option Counts). hoursBy o y) (counts-found xs t k e a) in
-    let w = f .1 in let v = kept xs .few k y in
-    (omega arith, omega arith,
-     ap (λ (j : ℕ). Ok (take j (drop start xs))) n ∙ ap (λ (j : ℕ). Ok (take (hoursIn (recordsOf xs) k y) (drop j xs))) p
-     ∙ sym (year-asked (pricesIn (recordsOf xs)) l k y a b h ∙ ap (λ (o : Option (List ℤ)). present o l y) (f .0)))
+    let w = f .1 in let v = kept xs .few k y in (
+      omega arith,
+      omega arith,
+      ap (λ (j : ℕ). Ok (take j (drop start xs))) n ∙ ap (λ (j : ℕ). Ok (take (hoursIn (recordsOf xs) k y) (drop j xs))) p
+          ∙ sym (year-asked (pricesIn (recordsOf xs)) l k y a b h ∙ ap (λ (o : Option (List ℤ)). present o l y) (f .0)),
+    )
 
 -- the prices of a year by where they stand
 
@@ -152,9 +154,10 @@ past-answered xs start hours hour l y year w e h =
 
 pub fill-answered : (xs ys : List ℤ) (start hours : ℕ) (buffer after : List ℤ) (year : Result (List ℤ) Fault) → start + hours ≤ length xs → Ok (take hours (drop start xs)) ≡ year →
     ys ≡ take hours (drop start xs) → after ≡ ys ++ drop (length ys) buffer → (Ok hours ≡ howMany year) × (after ≡ written year buffer)
-fill-answered xs ys start hours buffer after year w e p q =
-    (ap Ok (sym (span-long xs start hours w)) ∙ ap howMany e,
-     q ∙ ap (λ (zs : List ℤ). zs ++ drop (length zs) buffer) p ∙ ap (λ (r : Result (List ℤ) Fault). written r buffer) e)
+fill-answered xs ys start hours buffer after year w e p q = (
+  ap Ok (sym (span-long xs start hours w)) ∙ ap howMany e,
+  q ∙ ap (λ (zs : List ℤ). zs ++ drop (length zs) buffer) p ∙ ap (λ (r : Result (List ℤ) Fault). written r buffer) e,
+)
 
 -- the laws of an hour source
 

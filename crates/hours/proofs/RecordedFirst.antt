@@ -16,8 +16,7 @@ use Rattle.std.specs.declared.result.Result.the-variants.{Ok, Err}
 use Rattle.hours.specs.declared.recorded.entry.Counts.{Counts}
 use Rattle.hours.specs.declared.recorded.entry.Entry.{Entry}
 use Rattle.hours.specs.declared.recorded.tables.Tables.{Tables}
-use Rattle.hours.specs.declared.recorded.reading.Part.{Part}
-use Rattle.hours.specs.declared.recorded.reading.Part.the-variants.{Start, First, Second}
+use Rattle.hours.specs.declared.recorded.reading.Part.the-variants.{Start, First}
 use Rattle.hours.specs.declared.recorded.reading.Reading.{Reading}
 use Rattle.hours.specs.RecordedEntries.{andThen, entryFrom, isNone}
 use Rattle.hours.specs.RecordedFormat.{andThenOk, orRefused, Memory, Left, unlisted, entryAt, readEntries, onward}
@@ -47,9 +46,9 @@ closing s t x z rest g p l k e =
     in-part First s t p (x ∷ rest)
     ∙ ap (entriesLeft (s .left) t (s .entries + 1)) (filled (s .read) (s .at) x z rest (g .read) (g .at) k e)
     ∙ ap (λ (v : Result (Left Tables) ℕ). andThenOk v (onward inTables))
-      (one inTables (s .left) t (s .entries + 1) (read′ ++ rest) l
-       ∙ ap (λ (o : Option Entry). orRefused o (s .entries + 1) (λ e. readEntries inTables (s .left - 1) (withEntry t e) (s .entries + 1 + 1) (drop 6 (read′ ++ rest)))) (at-whole inTables t read′ rest six)
-       ∙ ap (λ (ys : List ℤ). orRefused (andThen (entryFrom read′) (λ e. unlisted (tabledCounts t (e .slot)) (Some e))) (s .entries + 1) (λ e. readEntries inTables (s .left - 1) (withEntry t e) (s .entries + 1 + 1) ys)) (drop-at read′ rest 6 six))
+    (one inTables (s .left) t (s .entries + 1) (read′ ++ rest) l
+    ∙ ap (λ (o : Option Entry). orRefused o (s .entries + 1) (λ e. readEntries inTables (s .left - 1) (withEntry t e) (s .entries + 1 + 1) (drop 6 (read′ ++ rest)))) (at-whole inTables t read′ rest six)
+    ∙ ap (λ (ys : List ℤ). orRefused (andThen (entryFrom read′) (λ e. unlisted (tabledCounts t (e .slot)) (Some e))) (s .entries + 1) (λ e. readEntries inTables (s .left - 1) (withEntry t e) (s .entries + 1 + 1) ys)) (drop-at read′ rest 6 six))
 
 listed : (o : Option Counts) (e : Option Entry) → false ≡ isNone o → unlisted o e ≡ None
 listed None e h = cc
@@ -80,14 +79,16 @@ pub entry-taken : (s : Reading) (t : Tables) (x z : ℤ) (e : Entry) (u : Tables
     Steps s t x (Ok 0) (record { part = s .part; left = s .left - 1; at = 0; read = set (s .read) (s .at) z; entries = s .entries + 1 }) u
 entry-taken s t x z e u g b p l k i o h q =
     let r : Reading = record { part = s .part; left = s .left - 1; at = 0; read = set (s .read) (s .at) z; entries = s .entries + 1 } in
-    let far : u .next ≡ t .next + 6 = ap (λ (t : Tables). t .next) q in
-    (record { read = simp length-set (g .read); at = omega arith; none = λ n. refl; start = λ q. elsewhere (s .part) First Start p q (λ w. omega arith) },
-     (λ h. absurd (h refl)),
-     (ap (λ (t : Tables). length (t .counts)) q ∙ simp length-set (b .0), ap (λ (t : Tables). length (t .starts)) q ∙ b .1),
-     omega arith, omega arith,
-     λ rest.
-       closing s t x z rest g p l k i ∙ closed-new (s .left) t (s .entries + 1) _ e rest o h
-       ∙ ap (λ (t : Tables). entriesLeft (s .left - 1) t (s .entries + 1 + 1) rest) (sym q) ∙ sym (in-part First r u p rest))
+    let far : u .next ≡ t .next + 6 = ap (λ (t : Tables). t .next) q in (
+      record { read = simp length-set (g .read); at = omega arith; none = λ n. refl; start = λ q. elsewhere (s .part) First Start p q (λ w. omega arith) },
+      (λ h. absurd (h refl)),
+      (ap (λ (t : Tables). length (t .counts)) q ∙ simp length-set (b .0), ap (λ (t : Tables). length (t .starts)) q ∙ b .1),
+      omega arith,
+      omega arith,
+      λ rest.
+          closing s t x z rest g p l k i ∙ closed-new (s .left) t (s .entries + 1) _ e rest o h
+          ∙ ap (λ (t : Tables). entriesLeft (s .left - 1) t (s .entries + 1 + 1) rest) (sym q) ∙ sym (in-part First r u p rest),
+    )
 
 pub entry-unlawful : (s : Reading) (t : Tables) (x z : ℤ) → Good s → s .part ≡ First → (s .left ≡ 0 → ⊥) → 5 ≤ s .at → z ≡ x → entryFrom (set (s .read) (s .at) z) ≡ None → (rest : List ℤ) → resume 0 s t (x ∷ rest) ≡ Err (s .entries + 1)
 entry-unlawful s t x z g p l k i o rest = closing s t x z rest g p l k i ∙ ap (λ (o : Option Entry). closed (s .left) t (s .entries + 1) o rest) o
@@ -101,5 +102,5 @@ entry-cut s t g p l =
     let read′ : List ℤ = take (s .at) (s .read) ++ [] in
     in-part First s t p []
     ∙ ap (λ (v : Result (Left Tables) ℕ). andThenOk v (onward inTables))
-      (one inTables (s .left) t (s .entries + 1) read′ l
-       ∙ ap (λ (o : Option Entry). orRefused o (s .entries + 1) (λ e. readEntries inTables (s .left - 1) (withEntry t e) (s .entries + 1 + 1) (drop 6 read′))) (at-cut inTables t read′ (short-of-six s g)))
+    (one inTables (s .left) t (s .entries + 1) read′ l
+    ∙ ap (λ (o : Option Entry). orRefused o (s .entries + 1) (λ e. readEntries inTables (s .left - 1) (withEntry t e) (s .entries + 1 + 1) (drop 6 read′))) (at-cut inTables t read′ (short-of-six s g)))

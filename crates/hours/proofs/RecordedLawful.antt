@@ -1,12 +1,11 @@
 -- What a lawful entry of recorded hours is held to.
-use mathlib.Core.Path.{_≡_, refl, sym, ap, _∙_, subst}
+use mathlib.Core.Path.{_≡_, refl, subst}
 use mathlib.Core.List.{List}
 use mathlib.Core.Bool.{Bool, true, false, cond}
 use Prim.Native.Nat.{ℕ, _≤_}
 use native.Mathlib.Omega.{arith}
 use lib.IntN.{ℤ, pos, negsuc}
 use lib.ListN.{getD}
-use Rattle.std.proofs.shelf.Tests.{cases-bool}
 use Rattle.std.proofs.shelf.Ways.{tells}
 use Rattle.std.specs.declared.option.Option.{Option}
 use Rattle.std.specs.declared.option.Option.the-variants.{Some, None}
@@ -78,9 +77,10 @@ head-lawful xs h e =
     let r = through (upTo 1 (getD xs 4 (pos 0))) _ h (q .2) in
     let s = through (upTo 9000 (getD xs 5 (pos 0))) _ h (r .2) in
     let same : _≡_ {A = Head} (record { series = record { location = p .0; slot = q .0; year = r .0 }; hours = s .0 }) h = let w = s .2 in cc in
-    subst (λ (h : Head). LawfulSeries (h .series) × (h .hours ≤ 9000)) same
-    ((slot-lawful (getD xs 1 (pos 0)) (getD xs 2 (pos 0)) (getD xs 3 (pos 0)) (q .0) (q .1), up-to-le 63 (getD xs 0 (pos 0)) (p .0) (p .1), up-to-le 1 (getD xs 4 (pos 0)) (r .0) (r .1)),
-     up-to-le 9000 (getD xs 5 (pos 0)) (s .0) (s .1))
+    subst (λ (h : Head). LawfulSeries (h .series) × (h .hours ≤ 9000)) same (
+      (slot-lawful (getD xs 1 (pos 0)) (getD xs 2 (pos 0)) (getD xs 3 (pos 0)) (q .0) (q .1), up-to-le 63 (getD xs 0 (pos 0)) (p .0) (p .1), up-to-le 1 (getD xs 4 (pos 0)) (r .0) (r .1)),
+      up-to-le 9000 (getD xs 5 (pos 0)) (s .0) (s .1),
+    )
 
 -- what fits has hours
 pub fitting-some : (o : Option Counts) (there : Bool) (h : Head) → fitting o there h ≡ true → h .hours ≡ 0 → ⊥

@@ -45,7 +45,7 @@ held-none xs s t e g a n whole =
       sized = subst Sized (sym e) empty-sized;
       entries = omega arith;
       next = omega arith;
-      leads = whole t xs ∙ ap (λ (t : Tables). bothSections inTables t xs) e
+      leads = whole t xs ∙ ap (λ (t : Tables). bothSections inTables t xs) e;
     }
 
 -- the next number, at the front of what is left
@@ -63,7 +63,7 @@ held-price xs i k s t z held h e some lawful =
       sized = held .sized;
       entries = omega arith;
       next = omega arith;
-      leads = sym (price-taken k s t z (drop (i + 1) xs) (held .owes) ne lawful) ∙ at-front k s t xs i z h e ∙ held .leads
+      leads = sym (price-taken k s t z (drop (i + 1) xs) (held .owes) ne lawful) ∙ at-front k s t xs i z h e ∙ held .leads;
     }
 
 -- any other number more
@@ -76,7 +76,7 @@ held-step xs i k s t z owed r u held h e none step =
       sized = step .2;
       entries = omega arith;
       next = omega arith;
-      leads = sym (step .5 (drop (i + 1) xs)) ∙ at-front 0 s t xs i z h e ∙ ap (λ (k : ℕ). resume k s t (drop i xs)) (let q : 0 ≡ k = omega arith in q) ∙ held .leads
+      leads = sym (step .5 (drop (i + 1) xs)) ∙ at-front 0 s t xs i z h e ∙ ap (λ (k : ℕ). resume k s t (drop i xs)) (let q : 0 ≡ k = omega arith in q) ∙ held .leads;
     }
 
 -- the same under other names

@@ -6,7 +6,7 @@ use Prim.Native.Nat.{ℕ, zero, suc, _+_, _-_, _<_, _≤_}
 use native.Mathlib.Omega.{arith}
 use native.Mathlib.Numerals.{sub-one}
 use lib.IntN.{ℤ}
-use lib.ListN.{length, take, drop, set}
+use lib.ListN.{length, take, set}
 use Rattle.std.proofs.shelf.Lists.{take-at, drop-at, length-set}
 use Rattle.std.proofs.shelf.Tests.{lt-leb}
 use Rattle.std.specs.declared.option.Option.{Option}
@@ -15,13 +15,12 @@ use Rattle.std.specs.declared.result.Result.{Result}
 use Rattle.std.specs.declared.result.Result.the-variants.{Ok, Err}
 use Rattle.hours.specs.declared.recorded.entry.Head.{Head}
 use Rattle.hours.specs.declared.recorded.tables.Tables.{Tables}
-use Rattle.hours.specs.declared.recorded.reading.Part.{Part}
-use Rattle.hours.specs.declared.recorded.reading.Part.the-variants.{Start, First, Second}
+use Rattle.hours.specs.declared.recorded.reading.Part.the-variants.{Start, Second}
 use Rattle.hours.specs.declared.recorded.reading.Reading.{Reading}
 use Rattle.hours.specs.RecordedEntries.{andThen, headFrom, fitting, lawfulPrice}
-use Rattle.hours.specs.RecordedFormat.{andThenOk, orRefused, Memory, Left, Prices, Taken, readPrices, headAt, pricesAfter, yearAt, readYears, nothingMore}
+use Rattle.hours.specs.RecordedFormat.{andThenOk, orRefused, Memory, Left, Prices, Taken, readPrices, pricesAfter, yearAt, readYears, nothingMore}
 use Rattle.hours.specs.RecordedTables.{tabledCounts, hasStart, withSeries, inTables, Sized}
-use Rattle.hours.specs.RecordedReading.{yearsLeft, pricesLeft, resume, resumeIn, Good, Owes, Steps}
+use Rattle.hours.specs.RecordedReading.{yearsLeft, pricesLeft, resume, Good, Owes, Steps}
 use Rattle.hours.proofs.RecordedSteps.{filled, six-there, short-of-six, in-part, elsewhere, kept-on}
 
 -- one entry of the section
@@ -49,8 +48,8 @@ closing s t x z rest g p l k e =
     in-part Second s t p (x ∷ rest)
     ∙ ap (yearsLeft (s .left) t (s .entries + 1)) (filled (s .read) (s .at) x z rest (g .read) (g .at) k e)
     ∙ ap (λ (v : Result (Left Tables) ℕ). andThenOk v nothingMore)
-      (one inTables (s .left) t (s .entries + 1) (read′ ++ rest) l
-       ∙ ap (λ (o : Option Taken). orRefused o (s .entries + 1) (λ y. readYears inTables (s .left - 1) (withSeries t (y .head) (y .prices)) (s .entries + 1 + 1) (y .rest))) (at-whole inTables t read′ rest six))
+    (one inTables (s .left) t (s .entries + 1) (read′ ++ rest) l
+    ∙ ap (λ (o : Option Taken). orRefused o (s .entries + 1) (λ y. readYears inTables (s .left - 1) (withSeries t (y .head) (y .prices)) (s .entries + 1 + 1) (y .rest))) (at-whole inTables t read′ rest six))
 
 -- a head that fits, and the prices that it says are to follow
 opened : (n : ℕ) (t : Tables) (line : ℕ) (h : Head) (rest : List ℤ) → closed n t line (Some h) rest ≡ pricesLeft (h .hours) (n - 1) (withSeries t h []) line rest
@@ -76,18 +75,20 @@ pub head-taken : (s : Reading) (t : Tables) (x z : ℤ) (h : Head) (u : Tables) 
     Steps s t x (Ok (h .hours)) (record { part = s .part; left = s .left - 1; at = 0; read = set (s .read) (s .at) z; entries = s .entries + 1 }) u
 head-taken s t x z h u g b p l k i o f q few some =
     let r : Reading = record { part = s .part; left = s .left - 1; at = 0; read = set (s .read) (s .at) z; entries = s .entries + 1 } in
-    let far : u .next ≡ t .next + 6 + h .hours = ap (λ (t : Tables). t .next) q in
-    (record { read = simp length-set (g .read); at = omega arith; none = λ n. refl; start = λ q. elsewhere (s .part) Second Start p q (λ w. omega arith) },
-     (λ e. (p, refl)),
-     (ap (λ (t : Tables). length (t .counts)) q ∙ b .0, ap (λ (t : Tables). length (t .starts)) q ∙ simp length-set (b .1)),
-     omega arith, omega arith,
-     λ rest.
-       closing s t x z rest g p l k i
-       ∙ ap (λ (o : Option Head). closed (s .left) t (s .entries + 1) (fitted inTables t o) rest) o
-       ∙ ap (λ (v : Bool). closed (s .left) t (s .entries + 1) (cond v (Some h) None) rest) (sym f)
-       ∙ opened (s .left) t (s .entries + 1) h rest
-       ∙ ap (λ (t : Tables). pricesLeft (h .hours) (s .left - 1) t (s .entries + 1) rest) (sym q)
-       ∙ sym (owing (h .hours) r u rest some))
+    let far : u .next ≡ t .next + 6 + h .hours = ap (λ (t : Tables). t .next) q in (
+      record { read = simp length-set (g .read); at = omega arith; none = λ n. refl; start = λ q. elsewhere (s .part) Second Start p q (λ w. omega arith) },
+      (λ e. (p, refl)),
+      (ap (λ (t : Tables). length (t .counts)) q ∙ b .0, ap (λ (t : Tables). length (t .starts)) q ∙ simp length-set (b .1)),
+      omega arith,
+      omega arith,
+      λ rest.
+          closing s t x z rest g p l k i
+          ∙ ap (λ (o : Option Head). closed (s .left) t (s .entries + 1) (fitted inTables t o) rest) o
+          ∙ ap (λ (v : Bool). closed (s .left) t (s .entries + 1) (cond v (Some h) None) rest) (sym f)
+          ∙ opened (s .left) t (s .entries + 1) h rest
+          ∙ ap (λ (t : Tables). pricesLeft (h .hours) (s .left - 1) t (s .entries + 1) rest) (sym q)
+          ∙ sym (owing (h .hours) r u rest some),
+    )
 
 pub head-unlawful : (s : Reading) (t : Tables) (x z : ℤ) → Good s → s .part ≡ Second → (s .left ≡ 0 → ⊥) → 5 ≤ s .at → z ≡ x → headFrom (set (s .read) (s .at) z) ≡ None → (rest : List ℤ) → resume 0 s t (x ∷ rest) ≡ Err (s .entries + 1)
 head-unlawful s t x z g p l k i o rest =
@@ -105,8 +106,8 @@ head-cut s t g p l =
     let read′ : List ℤ = take (s .at) (s .read) ++ [] in
     in-part Second s t p []
     ∙ ap (λ (v : Result (Left Tables) ℕ). andThenOk v nothingMore)
-      (one inTables (s .left) t (s .entries + 1) read′ l
-       ∙ ap (λ (o : Option Taken). orRefused o (s .entries + 1) (λ y. readYears inTables (s .left - 1) (withSeries t (y .head) (y .prices)) (s .entries + 1 + 1) (y .rest))) (at-cut inTables t read′ (short-of-six s g)))
+    (one inTables (s .left) t (s .entries + 1) read′ l
+    ∙ ap (λ (o : Option Taken). orRefused o (s .entries + 1) (λ y. readYears inTables (s .left - 1) (withSeries t (y .head) (y .prices)) (s .entries + 1 + 1) (y .rest))) (at-cut inTables t read′ (short-of-six s g)))
 
 -- the price at the front
 abbrev onPrices : Option Prices → ℕ → Tables → ℕ → Result Tables ℕ

@@ -10,7 +10,7 @@ use lib.ListN.{length, take, set}
 use Rattle.std.proofs.shelf.Lists.{take-more-set, append-assoc, append-nil, take-all, length-append, length-set, length-take-le}
 use Rattle.std.proofs.shelf.Tests.{le-leb}
 use Rattle.std.specs.declared.result.Result.{Result}
-use Rattle.std.specs.declared.result.Result.the-variants.{Ok, Err}
+use Rattle.std.specs.declared.result.Result.the-variants.{Ok}
 use Rattle.hours.specs.declared.recorded.tables.Tables.{Tables}
 use Rattle.hours.specs.declared.recorded.reading.Part.{Part}
 use Rattle.hours.specs.declared.recorded.reading.Part.the-variants.{Start, First, Second}
@@ -58,10 +58,14 @@ pub kept-on : (s : Reading) (t : Tables) (x z : ℤ) (p : Part) (after : List �
     ((xs : List ℤ) → resumeIn p (record { part = s .part; left = s .left; at = s .at + 1; read = set (s .read) (s .at) z; entries = s .entries }) t xs ≡ after (take (s .at + 1) (set (s .read) (s .at) z) ++ xs)) →
     Steps s t x (Ok 0) (record { part = s .part; left = s .left; at = s .at + 1; read = set (s .read) (s .at) z; entries = s .entries }) t
 kept-on s t x z p after g b i ne l k e was will =
-    let r : Reading = record { part = s .part; left = s .left; at = s .at + 1; read = set (s .read) (s .at) z; entries = s .entries } in
-    (record { read = simp length-set (g .read); at = omega arith; none = λ n. absurd (l n); start = λ q. absurd (ne (sym i ∙ q)) },
-     (λ h. absurd (h refl)), b, omega arith, omega arith,
-     λ rest.
-       in-part p s t i (x ∷ rest) ∙ was (x ∷ rest)
-       ∙ ap after (stored (s .read) (s .at) x z rest (let q = g .read in let h = g .at in omega arith) e)
-       ∙ sym (will rest) ∙ sym (in-part p r t i rest))
+    let r : Reading = record { part = s .part; left = s .left; at = s .at + 1; read = set (s .read) (s .at) z; entries = s .entries } in (
+      record { read = simp length-set (g .read); at = omega arith; none = λ n. absurd (l n); start = λ q. absurd (ne (sym i ∙ q)) },
+      (λ h. absurd (h refl)),
+      b,
+      omega arith,
+      omega arith,
+      λ rest.
+          in-part p s t i (x ∷ rest) ∙ was (x ∷ rest)
+          ∙ ap after (stored (s .read) (s .at) x z rest (let q = g .read in let h = g .at in omega arith) e)
+          ∙ sym (will rest) ∙ sym (in-part p r t i rest),
+    )

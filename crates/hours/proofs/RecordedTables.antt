@@ -1,13 +1,13 @@
 -- The tables and the lists of the entries before say the same.
 use mathlib.Core.Path.{_≡_, refl, sym, ap, _∙_, subst}
-use mathlib.Core.List.{List, [], _∷_, _++_}
+use mathlib.Core.List.{List, [], _++_}
 use mathlib.Core.Bool.{Bool, true, false, cond}
 use mathlib.Core.Logic.{inl, inr}
 use Prim.Native.Nat.{ℕ, _+_, _<_, _≤_}
 use native.Mathlib.Omega.{arith}
 use lib.Dec.{eqb}
 use lib.IntN.{ℤ, pos}
-use lib.ListN.{length, take, drop, getD, set}
+use lib.ListN.{length, take, drop, getD}
 use Rattle.std.proofs.shelf.Lists.{length-set, getD-set-same, getD-set-other, getD-replicate, length-replicate, take-at}
 use Rattle.std.proofs.shelf.Tests.{cases-bool, cond-true, cond-false}
 use Rattle.std.proofs.shelf.Ways.{tells}
@@ -60,7 +60,7 @@ same-none all =
       slots = λ k c p. not-none c p;
       series = λ s vs p. not-none vs p;
       few = λ k y. omega arith;
-      near = λ s vs p. not-none vs p
+      near = λ s vs p. not-none vs p;
     }
 
 -- numbers of slots and of series
@@ -131,20 +131,22 @@ same-entry all t r e lawful few none same =
     record {
       sized = (simp length-set (same .sized .0), same .sized .1);
       looks = λ k m. elim (cases-bool (sameSlot (e .slot) k)) [
-        inl y ↦
-          let long : slotNumber (e .slot) < length (t .counts) = let l = same .sized .0 in let w = slot-within (e .slot) lawful in omega arith in
-          ap (λ (j : Slot). tabledCounts (withEntry t e) j) (sym (same-slot (e .slot) k y)) ∙ getD-set-same (t .counts) (slotNumber (e .slot)) (Some (e .counts)) None long
-          ∙ sym (cond-true (sameSlot (e .slot) k) (Some (e .counts)) (countsAmong (r .listed) k) y)
-      | inr n ↦
-          getD-set-other (t .counts) (slotNumber (e .slot)) (slotNumber k) (Some (e .counts)) None (slots-apart (e .slot) k lawful m n) ∙ same .looks k m
-          ∙ sym (cond-false (sameSlot (e .slot) k) (Some (e .counts)) (countsAmong (r .listed) k) n) ];
+        | inl y ↦
+            let long : slotNumber (e .slot) < length (t .counts) = let l = same .sized .0 in let w = slot-within (e .slot) lawful in omega arith in
+            ap (λ (j : Slot). tabledCounts (withEntry t e) j) (sym (same-slot (e .slot) k y)) ∙ getD-set-same (t .counts) (slotNumber (e .slot)) (Some (e .counts)) None long
+            ∙ sym (cond-true (sameSlot (e .slot) k) (Some (e .counts)) (countsAmong (r .listed) k) y)
+        | inr n ↦
+            getD-set-other (t .counts) (slotNumber (e .slot)) (slotNumber k) (Some (e .counts)) None (slots-apart (e .slot) k lawful m n) ∙ same .looks k m
+            ∙ sym (cond-false (sameSlot (e .slot) k) (Some (e .counts)) (countsAmong (r .listed) k) n)
+      ];
       stands = λ s m. none-stands all _ _ _ (pricesAmong (r .years) s) (ap (λ (ys : List Year). pricesAmong ys s) none) (same .stands s m);
       slots = λ k c p. elim (cases-bool (sameSlot (e .slot) k)) [
-        inl y ↦ subst (λ (k : Slot). lawfulSlot k ≡ true) (same-slot (e .slot) k y) lawful
-      | inr n ↦ same .slots k c (sym (cond-false (sameSlot (e .slot) k) (Some (e .counts)) (countsAmong (r .listed) k) n) ∙ p) ];
+        | inl y ↦ subst (λ (k : Slot). lawfulSlot k ≡ true) (same-slot (e .slot) k y) lawful
+        | inr n ↦ same .slots k c (sym (cond-false (sameSlot (e .slot) k) (Some (e .counts)) (countsAmong (r .listed) k) n) ∙ p)
+      ];
       series = same .series;
       few = λ k y. few-either (sameSlot (e .slot) k) (e .counts) (countsAmong (r .listed) k) y few (same .few k y);
-      near = same .near
+      near = same .near;
     }
 
 -- an entry of the second section more: its prices are the next among all numbers, after the six numbers of its head
@@ -158,26 +160,29 @@ same-year all t r h vs rest lawful d l some close same =
       sized = (same .sized .0, simp length-set (same .sized .1));
       looks = same .looks;
       stands = λ s m. elim (cases-bool (sameSeries key s)) [
-        inl y ↦
-          let at : startOf (withSeries t h vs) key ≡ t .next + 6 = getD-set-same (t .starts) (seriesNumber key) (t .next + 6) 0 long in
-          let there : Stands all (t .next + 6) (hoursBy (countsAmong (r .listed) (key .slot)) (key .year)) (Some vs) =
-              (omega arith, ap (take (length vs)) d ∙ take-at vs rest (length vs) refl, l, subst (λ (n : ℕ). 0 < n) l some) in
-          let here : Stands all (startOf (withSeries t h vs) key) (hoursBy (countsAmong (r .listed) (key .slot)) (key .year)) (Some vs) =
-              subst (λ (p : ℕ). Stands all p (hoursBy (countsAmong (r .listed) (key .slot)) (key .year)) (Some vs)) (sym at) there in
-          subst (λ (o : Option (List ℤ)). Stands all (startOf (withSeries t h vs) s) (hoursBy (countsAmong (r .listed) (s .slot)) (s .year)) o)
-          (sym (cond-true (sameSeries key s) (Some vs) (pricesAmong (r .years) s) y))
-          (subst (λ (s : Series). Stands all (startOf (withSeries t h vs) s) (hoursBy (countsAmong (r .listed) (s .slot)) (s .year)) (Some vs)) (same-series key s y) here)
-      | inr n ↦
-          subst (λ (o : Option (List ℤ)). Stands all (startOf (withSeries t h vs) s) (hoursBy (countsAmong (r .listed) (s .slot)) (s .year)) o)
-          (sym (cond-false (sameSeries key s) (Some vs) (pricesAmong (r .years) s) n))
-          (subst (λ (p : ℕ). Stands all p (hoursBy (countsAmong (r .listed) (s .slot)) (s .year)) (pricesAmong (r .years) s))
-           (sym (getD-set-other (t .starts) (seriesNumber key) (seriesNumber s) (t .next + 6) 0 (series-apart key s lawful m n))) (same .stands s m)) ];
+        | inl y ↦
+            let at : startOf (withSeries t h vs) key ≡ t .next + 6 = getD-set-same (t .starts) (seriesNumber key) (t .next + 6) 0 long in
+            let there : Stands all (t .next + 6) (hoursBy (countsAmong (r .listed) (key .slot)) (key .year)) (Some vs) =
+            (omega arith, ap (take (length vs)) d ∙ take-at vs rest (length vs) refl, l, subst (λ (n : ℕ). 0 < n) l some) in
+            let here : Stands all (startOf (withSeries t h vs) key) (hoursBy (countsAmong (r .listed) (key .slot)) (key .year)) (Some vs) =
+            subst (λ (p : ℕ). Stands all p (hoursBy (countsAmong (r .listed) (key .slot)) (key .year)) (Some vs)) (sym at) there in
+            subst (λ (o : Option (List ℤ)). Stands all (startOf (withSeries t h vs) s) (hoursBy (countsAmong (r .listed) (s .slot)) (s .year)) o)
+            (sym (cond-true (sameSeries key s) (Some vs) (pricesAmong (r .years) s) y))
+            (subst (λ (s : Series). Stands all (startOf (withSeries t h vs) s) (hoursBy (countsAmong (r .listed) (s .slot)) (s .year)) (Some vs)) (same-series key s y) here)
+        | inr n ↦
+            subst (λ (o : Option (List ℤ)). Stands all (startOf (withSeries t h vs) s) (hoursBy (countsAmong (r .listed) (s .slot)) (s .year)) o)
+            (sym (cond-false (sameSeries key s) (Some vs) (pricesAmong (r .years) s) n))
+            (subst (λ (p : ℕ). Stands all p (hoursBy (countsAmong (r .listed) (s .slot)) (s .year)) (pricesAmong (r .years) s))
+            (sym (getD-set-other (t .starts) (seriesNumber key) (seriesNumber s) (t .next + 6) 0 (series-apart key s lawful m n))) (same .stands s m))
+      ];
       slots = same .slots;
       series = λ s ws p. elim (cases-bool (sameSeries key s)) [
-        inl y ↦ subst LawfulSeries (same-series key s y) lawful
-      | inr n ↦ same .series s ws (sym (cond-false (sameSeries key s) (Some vs) (pricesAmong (r .years) s) n) ∙ p) ];
+        | inl y ↦ subst LawfulSeries (same-series key s y) lawful
+        | inr n ↦ same .series s ws (sym (cond-false (sameSeries key s) (Some vs) (pricesAmong (r .years) s) n) ∙ p)
+      ];
       few = same .few;
       near = λ s ws p. elim (cases-bool (sameSeries key s)) [
-        inl y ↦ let q : vs ≡ ws = let w = sym (cond-true (sameSeries key s) (Some vs) (pricesAmong (r .years) s) y) ∙ p in cc in subst Near q close
-      | inr n ↦ same .near s ws (sym (cond-false (sameSeries key s) (Some vs) (pricesAmong (r .years) s) n) ∙ p) ]
+        | inl y ↦ let q : vs ≡ ws = let w = sym (cond-true (sameSeries key s) (Some vs) (pricesAmong (r .years) s) y) ∙ p in cc in subst Near q close
+        | inr n ↦ same .near s ws (sym (cond-false (sameSeries key s) (Some vs) (pricesAmong (r .years) s) n) ∙ p)
+      ];
     }

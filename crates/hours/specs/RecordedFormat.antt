@@ -1,7 +1,12 @@
 -- Recorded hours as a list of numbers: what it says, and at which line it is refused.
 --
--- The rule is `records`: the numbers are read entry by entry, and what was read is kept as the two lists of entries.
--- The reader itself does not say how the entries before are kept: it asks a `Memory`. To read the rule, take `lists` for every memory `m` below, and `Records` for `S`.
+-- section 1: count of entries; for each  first month, months, class, recent hours, distant hours, hours ahead
+-- section 2: count of entries; for each  location, first month, months, class, year, hours, and that many prices
+-- and nothing more.
+--
+-- The rule is `records`, at the end: the numbers are read entry by entry, and what was read is kept as the two lists of entries.
+-- The reader itself does not say how the entries before are kept: it asks a `Memory`. To read the rule, take `lists`, which keeps the entries themselves,
+-- for every memory `m` below, and `Records` for `S`. (The code keeps tables in their place; that both come out alike is proved.)
 use mathlib.Core.List.{List, [], _∷_}
 use mathlib.Core.Bool.{Bool, cond}
 use Prim.Native.Nat.{ℕ, zero, suc, _+_}
@@ -50,14 +55,14 @@ pub record Memory (S : Type 0) : Type 0 where
   pub has : S → Series → Bool
   pub put : S → Head → List ℤ → S
 
--- the entries themselves
+-- the memory of the rule: the entries themselves
 abbrev pub lists : Memory Records
 lists = record {
   counts = λ r slot. countsAmong (r .listed) slot;
   list = λ r e. record { listed = e ∷ r .listed; years = r .years };
   has = λ r series. isSome (pricesAmong (r .years) series);
-  put = λ r h prices. record { listed = r .listed; years = record { series = h .series; prices = prices } ∷ r .years }
-  }
+  put = λ r h prices. record { listed = r .listed; years = record { series = h .series; prices = prices } ∷ r .years };
+}
 
 abbrev pub noRecords : Records
 noRecords = record { listed = []; years = [] }
@@ -177,3 +182,10 @@ hoursIn r slot year = hoursBy (countsIn r slot) year
 
 abbrev pub pricesIn : Records → ℕ → Slot → ℕ → Option (List ℤ)
 pricesIn r location slot year = pricesAmong (r .years) (record { location = location; slot = slot; year = year })
+
+-- the hours and the prices that numbers mean. They stay shut where a source is used: an answer then speaks of them by name, and not of the whole format
+unfoldable pub recordedHours : List ℤ → Slot → ℕ → ℕ
+recordedHours xs slot year = hoursIn (recordsOf xs) slot year
+
+unfoldable pub recordedPrices : List ℤ → ℕ → Slot → ℕ → Option (List ℤ)
+recordedPrices xs location slot year = pricesIn (recordsOf xs) location slot year

@@ -1,3 +1,5 @@
-//! Recorded hours on examples: numbers that are refused, each in a way of its own, numbers that are not, and what is answered of them.
+//! Hour sources on examples. The library's promises are proved; these say in numbers what they come to.
+#[cfg(test)]
+mod questions;
 #[cfg(test)]
 mod recorded;

@@ -10,7 +10,8 @@ use crate::unlawful::Unlawful;
 /// More numbers are refused before any is looked at.
 const MOST_NUMBERS: usize = 1_000_000;
 
-/// Reads all numbers into empty tables, or answers the line of the first fault. Most numbers are prices, so they are taken here.
+/// Reads all numbers into empty tables, or answers the line of the first fault.
+/// Nearly all numbers are prices that an entry owes: these are only looked at, here, and all others are steps of the reading.
 fn read_numbers(numbers: &[i32], tables: &mut Tables) -> Result<(), u32>
     requires { ⌜ now tables ≡ emptyTables ⌝ }
     ensures { λ r. ⌜ tablesRead (now (numbers .entry)) ≡ cameOut r (now (tables .exit)) ⌝ }

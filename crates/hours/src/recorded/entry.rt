@@ -65,7 +65,11 @@ fn slot_of(first: i32, months: i32, class: i32) -> Option<Slot>
     let class = up_to(1, class)?;
     let period = Period { first, months };
     let slot = Slot { period, class };
-    if is_lawful_slot(slot) { Some(slot) } else { None }
+    if is_lawful_slot(slot) {
+        Some(slot)
+    } else {
+        None
+    }
 }
 
 pub fn entry_of(read: [i32; 6]) -> Option<Entry>
@@ -75,7 +79,11 @@ pub fn entry_of(read: [i32; 6]) -> Option<Entry>
     let recent = hour_count(read[3])?;
     let distant = hour_count(read[4])?;
     let ahead = hour_count(read[5])?;
-    let counts = Counts { recent, distant, ahead };
+    let counts = Counts {
+        recent,
+        distant,
+        ahead,
+    };
     Some(Entry { slot, counts })
 }
 
@@ -86,7 +94,11 @@ pub fn head_of(read: [i32; 6]) -> Option<Head>
     let slot = slot_of(read[1], read[2], read[3])?;
     let year = up_to(1, read[4])?;
     let hours = hour_count(read[5])?;
-    let series = Series { location, slot, year };
+    let series = Series {
+        location,
+        slot,
+        year,
+    };
     Some(Head { series, hours })
 }
 

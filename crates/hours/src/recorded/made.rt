@@ -14,6 +14,7 @@ use super::tables::tabled_counts;
 use crate::period::Slot;
 use crate::period::is_lawful_slot;
 
+/// The numbers as they were given, and the tables of what they list, which are empty where the numbers are refused.
 #[derive(Drop)]
 pub struct Recorded {
     pub(super) numbers: Vec<i32>,
@@ -22,7 +23,7 @@ pub struct Recorded {
 }
 
 impl Recorded {
-    /// Numbers that the check refuses make recorded hours that list nothing: every count is 0, and no year has prices.
+    /// Recorded hours of these numbers. Numbers that the check refuses list nothing: every count is 0, and no location has a year.
     pub fn new(numbers: Vec<i32>) -> Recorded
         ensures { λ r. ⌜ vec-items (r .numbers) ≡ vec-items numbers ⌝ }
     {
@@ -44,7 +45,11 @@ impl Recorded {
     pub fn has_year(&self, location: u8, slot: Slot, year: u8) -> bool
         ensures { λ r. ⌜ r ≡ isSome (pricesIn (recordsOf (vec-items (now (self .entry) .numbers))) location slot year) ⌝ }
     {
-        let series = Series { location, slot, year };
+        let series = Series {
+            location,
+            slot,
+            year,
+        };
         if !is_lawful_series(series) {
             return false;
         }

@@ -1,5 +1,5 @@
 //! The reading of recorded hours, one number after the other.
-ghost use Prim.Native.Nat.{ℕ, _^_, _<_};
+ghost use Prim.Native.Nat.{_^_, _<_};
 ghost use Rattle.hours.specs.RecordedFormat.{bothSections};
 ghost use Rattle.hours.specs.RecordedReading.{Good, Owes, Steps, resume};
 ghost use Rattle.hours.specs.RecordedTables.{Sized, inTables, cameOut};
@@ -18,7 +18,9 @@ use super::tables::admit_series;
 pub enum Part {
     /// before the count of the first section
     Start,
+    /// in the first section, or before the count of the second
     First,
+    /// in the second section, or behind it
     Second,
 }
 
@@ -28,10 +30,10 @@ pub struct Reading {
     part: Part,
     /// the entries of the section that are left, the one at hand among them
     left: u32,
-    /// how many numbers of the entry at hand were read
+    /// how many numbers of the entry at hand were read, and these numbers
     at: usize,
     read: [i32; 6],
-    /// the entries of both sections that were read
+    /// the entries of both sections that were read, the last of them up to its prices
     entries: u32,
 }
 
@@ -42,10 +44,16 @@ impl Reading {
         ensures first { λ r. ⌜ r .entries ≡ 0 ⌝ }
         ensures whole { λ r. ⌜ ((t : Tables) (xs : List ℤ) → resume 0 r t xs ≡ bothSections inTables t xs) ⌝ }
     {
-        Reading { part: Part::Start, left: 0, at: 0, read: [0; 6], entries: 0 }
+        Reading {
+            part: Part::Start,
+            left: 0,
+            at: 0,
+            read: [0; 6],
+            entries: 0,
+        }
     }
 
-    /// The line of a fault in the last entry that was begun: its prices are what is read after it.
+    /// The line of the last entry that was read, whose prices may be owed.
     pub fn last_line(&self) -> u32
         ensures { λ r. ⌜ r ≡ now (self .entry) .entries ⌝ }
     {
@@ -171,10 +179,18 @@ impl Reading {
         match self.part {
             Part::Start => Err(0),
             Part::First => {
-                if self.left == 0 { Err(0) } else { Err(self.entries + 1) }
+                if self.left == 0 {
+                    Err(0)
+                } else {
+                    Err(self.entries + 1)
+                }
             }
             Part::Second => {
-                if self.left == 0 { Ok(()) } else { Err(self.entries + 1) }
+                if self.left == 0 {
+                    Ok(())
+                } else {
+                    Err(self.entries + 1)
+                }
             }
         }
     }

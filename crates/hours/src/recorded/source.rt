@@ -1,5 +1,5 @@
 //! Recorded hours as an hour source.
-ghost use Rattle.hours.specs.RecordedFormat.{recordsOf, hoursIn, pricesIn};
+ghost use Rattle.hours.specs.RecordedFormat.{recordedHours, recordedPrices};
 ghost use Rattle.std.specs.Of.Vec.{vec-items};
 use super::entry::RECORDED_LOCATIONS;
 use super::entry::hours_by;
@@ -18,12 +18,12 @@ use crate::source::MOST_HOURS;
 pub impl HourSource for Recorded as RecordedHours {
     const LOCATIONS: u8 = RECORDED_LOCATIONS;
 
-    /// A slot that is not listed has no hours, and a year that is not listed no prices.
     ghost locations = { 64 };
 
-    ghost hours = { λ source slot year. hoursIn (recordsOf (vec-items (source .numbers))) slot year };
+    /// A slot that is not listed has no hours, and a year that is not listed has no prices.
+    ghost hours = { λ source slot year. recordedHours (vec-items (source .numbers)) slot year };
 
-    ghost prices = { λ source location slot year. pricesIn (recordsOf (vec-items (source .numbers))) location slot year };
+    ghost prices = { λ source location slot year. recordedPrices (vec-items (source .numbers)) location slot year };
 
     fn location_count() -> u8 {
         Self::LOCATIONS
@@ -54,7 +54,10 @@ pub impl HourSource for Recorded as RecordedHours {
     ) -> Result<u16, Fault> {
         let span = self.span(location, slot, year)?;
         let start = span.start as usize;
-        copy_prices(&self.numbers.as_slice()[start..start + span.hours as usize], buffer);
+        copy_prices(
+            &self.numbers.as_slice()[start..start + span.hours as usize],
+            buffer,
+        );
         Ok(span.hours)
     }
 }

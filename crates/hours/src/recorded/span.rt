@@ -31,7 +31,8 @@ pub struct Span {
 }
 
 impl Recorded {
-    pub fn span(&self, location: u8, slot: Slot, year: u8) -> Result<Span, Fault>
+    /// Where the prices of a location's year stand. The faults come in the order of the questions: the question itself, the location, the year.
+    pub(super) fn span(&self, location: u8, slot: Slot, year: u8) -> Result<Span, Fault>
         ensures within { λ r. ⌜ made r (λ s. (s .start + s .hours ≤ vec-len (now (self .entry) .numbers)) × (s .hours ≤ 9000)) ⌝ }
         ensures prices { λ r. ⌜ spanned (vec-items (now (self .entry) .numbers)) r ≡ yearOf 64 (pricesIn (recordsOf (vec-items (now (self .entry) .numbers)))) location slot year ⌝ }
     {
@@ -41,7 +42,12 @@ impl Recorded {
         if RECORDED_LOCATIONS <= location {
             return Err(unknown_location(location));
         }
-        let start = start_of(&self.tables, Series { location, slot, year });
+        let series = Series {
+            location,
+            slot,
+            year,
+        };
+        let start = start_of(&self.tables, series);
         if start == 0 {
             return Err(lacking_year(location, year));
         }

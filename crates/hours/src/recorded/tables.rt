@@ -32,7 +32,11 @@ impl Tables {
     pub fn empty() -> Tables
         ensures { λ r. ⌜ r ≡ emptyTables ⌝ }
     {
-        Tables { counts: [None; SLOTS], starts: [0; SERIES], next: 2 }
+        Tables {
+            counts: [None; SLOTS],
+            starts: [0; SERIES],
+            next: 2,
+        }
     }
 }
 
@@ -96,7 +100,10 @@ pub fn admit_series(tables: &mut Tables, head: Head) -> bool
     ensures after { λ r. ⌜ now (tables .exit) ≡ cond r (withSeries (now (tables .entry)) head []) (now (tables .entry)) ⌝ }
 {
     let k = series_number(head.series);
-    let counted = hours_by(tables.counts[slot_number(head.series.slot)], head.series.year);
+    let counted = hours_by(
+        tables.counts[slot_number(head.series.slot)],
+        head.series.year,
+    );
     if 1 <= head.hours && head.hours == counted && tables.starts[k] == 0 {
         tables.starts[k] = tables.next + 6;
         tables.next = tables.next + 6 + u32::from(head.hours);

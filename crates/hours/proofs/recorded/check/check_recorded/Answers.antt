@@ -1,4 +1,4 @@
-use mathlib.Core.Path.{_≡_, sym, ap, _∙_}
+use mathlib.Core.Path.{sym, ap, _∙_}
 use Rattle.hours.specs.RecordedFormat.{checked}
 use Rattle.hours.proofs.RecordedAlike.{checked-alike}
 use Rattle.hours.proofs.recorded.check.check_recorded.Needs as need

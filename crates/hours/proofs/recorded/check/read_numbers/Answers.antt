@@ -1,4 +1,4 @@
-use mathlib.Core.Path.{_≡_, sym, ap, _∙_}
+use mathlib.Core.Path.{sym, ap, _∙_}
 use Prim.Native.Nat.{ℕ}
 use borrow.Author.Needs.{needs}
 use lib.IntN.{pos}
@@ -6,7 +6,7 @@ use lib.ListN.{getD}
 use mir.Syntax.{w32}
 use mir.Val.{SFits}
 use Rattle.std.specs.declared.result.Result.{Result}
-use Rattle.std.specs.declared.result.Result.the-variants.{Ok, Err}
+use Rattle.std.specs.declared.result.Result.the-variants.{Err}
 use Rattle.std.proofs.shelf.Signed.{toZ-ofZ}
 use Rattle.std.proofs.shelf.Results.{err-from-errBy}
 use Rattle.hours.specs.RecordedTables.{cameOut}
@@ -41,12 +41,13 @@ loop-i-again c =
     let i = c .loop-i .i in
     let f : SFits w32 (getD xs i (pos 0)) = search needs in
     elim (c .if-owed-gt0 .came) [
-      then-owed-gt0·else-not-is-lawful-price w ↦
-        held-as xs _ (w .owed-is) (w .reading-is) (w .tables-is)
-        (held-price xs i (c .loop-i .owed) (c .loop-i .reading) (c .loop-i .tables) _ (c .loop-i .inv) (c .loop-i-test .taken) (toZ-ofZ w32 (getD xs i (pos 0)) f) (w .if-owed-gt0 .taken) (w .if-not-is-lawful-price .ensures tt))
-    | else-owed-gt0·in-Continue-owed w ↦
-        held-as xs _ (w .owed-is) (w .reading-is) (w .tables-is)
-        (held-step xs i (c .loop-i .owed) (c .loop-i .reading) (c .loop-i .tables) _ (w .in-Continue-owed .owed) (w .step .last .self) (w .step .last .tables) (c .loop-i .inv) (c .loop-i-test .taken) (toZ-ofZ w32 (getD xs i (pos 0)) f) (w .if-owed-gt0 .left) (w .in-Continue-owed .ensures tt)) ]
+      | then-owed-gt0·else-not-is-lawful-price w ↦
+          held-as xs _ (w .owed-is) (w .reading-is) (w .tables-is)
+          (held-price xs i (c .loop-i .owed) (c .loop-i .reading) (c .loop-i .tables) _ (c .loop-i .inv) (c .loop-i-test .taken) (toZ-ofZ w32 (getD xs i (pos 0)) f) (w .if-owed-gt0 .taken) (w .if-not-is-lawful-price .ensures tt))
+      | else-owed-gt0·in-Continue-owed w ↦
+          held-as xs _ (w .owed-is) (w .reading-is) (w .tables-is)
+          (held-step xs i (c .loop-i .owed) (c .loop-i .reading) (c .loop-i .tables) _ (w .in-Continue-owed .owed) (w .step .last .self) (w .step .last .tables) (c .loop-i .inv) (c .loop-i-test .taken) (toZ-ofZ w32 (getD xs i (pos 0)) f) (w .if-owed-gt0 .left) (w .in-Continue-owed .ensures tt))
+    ]
 
 pub returns : need.returns
 returns c =

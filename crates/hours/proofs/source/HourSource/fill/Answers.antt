@@ -51,9 +51,6 @@ returns-in-Break-n g c =
     let f = facts g (c .args .self .now) (c .args .location) (c .args .slot) (c .args .year) (h .0) (h .1) in
     clash (g .Self·HourSource .hours (c .args .self .now) (c .args .slot) (c .args .year)) (c .in-Break-n .field-0 .0) (sym (f .2) ∙ sym (c .in-Break-n .ensures tt))
 
-pub loop-hour-holds : need.loop-hour-holds
-loop-hour-holds g c zs there = refl
-
 pub index-buffer-hour : need.index-buffer-hour
 index-buffer-hour g c =
     let y : Result (List ℤ) Fault = year g (c .args .self .now) (c .args .location) (c .args .slot) (c .args .year) in

@@ -1,4 +1,4 @@
-use mathlib.Core.Path.{_≡_, sym, ap, _∙_}
+use mathlib.Core.Path.{sym, _∙_}
 use Rattle.std.specs.Of.Vec.{vec-items}
 use Rattle.hours.proofs.RecordedAnswers.{tables-sized, counts-found, counts-unlawful}
 use Rattle.hours.proofs.recorded.made.Recorded.counts.Needs as need
@@ -10,7 +10,7 @@ pub tabled-counts-requires : need.tabled-counts-requires
 tabled-counts-requires c κs =
     record {
       lawful = sym (c .if-not-is-lawful-slot .ensures tt);
-      sized = tables-sized (vec-items (c .args .self .now .numbers)) (c .args .self .now .tables) (c .args .self .now .made)
+      sized = tables-sized (vec-items (c .args .self .now .numbers)) (c .args .self .now .tables) (c .args .self .now .made);
     }
 
 pub returns : need.returns

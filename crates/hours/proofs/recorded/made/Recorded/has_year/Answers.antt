@@ -1,4 +1,4 @@
-use mathlib.Core.Path.{_≡_, sym, ap, _∙_}
+use mathlib.Core.Path.{sym, ap, _∙_}
 use mathlib.Core.List.{List}
 use Prim.Native.Nat.{ℕ}
 use lib.Dec.{ltb}
@@ -19,7 +19,7 @@ pub start-of-requires : need.start-of-requires
 start-of-requires c κs =
     record {
       lawful = series-lawful (seriesOf (c .args .location) (c .args .slot) (c .args .year)) (sym (c .if-not-is-lawful-series .ensures tt));
-      sized = tables-sized (vec-items (c .args .self .now .numbers)) (c .args .self .now .tables) (c .args .self .now .made)
+      sized = tables-sized (vec-items (c .args .self .now .numbers)) (c .args .self .now .tables) (c .args .self .now .made);
     }
 
 pub returns : need.returns

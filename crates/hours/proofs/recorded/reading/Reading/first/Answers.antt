@@ -1,4 +1,4 @@
-use mathlib.Core.Path.{_≡_, sym}
+use mathlib.Core.Path.{sym}
 use lib.ListN.{set}
 use mir.Syntax.{w32}
 use mir.Val.{toZ, ofZ}
@@ -16,7 +16,7 @@ admit-entry-requires c κs =
     record {
       lawful = entry-lawful (set (c .args .self .now .read) (c .args .self .now .at) (toZ w32 (ofZ w32 (c .args .x)))) (c .in-Some .entry) (sym (c .in-Some .ensures tt));
       sized = c .pre .sized;
-      next = c .pre .next
+      next = c .pre .next;
     }
 
 pub returns-then-not-admit-entry : need.returns-then-not-admit-entry

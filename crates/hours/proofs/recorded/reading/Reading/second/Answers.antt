@@ -1,4 +1,4 @@
-use mathlib.Core.Path.{_≡_, sym}
+use mathlib.Core.Path.{sym}
 use lib.ListN.{set}
 use mir.Syntax.{w32}
 use mir.Val.{toZ, ofZ}
@@ -16,7 +16,7 @@ admit-series-requires c κs =
     record {
       lawful = head-lawful (set (c .args .self .now .read) (c .args .self .now .at) (toZ w32 (ofZ w32 (c .args .x)))) (c .in-Some .head) (sym (c .in-Some .ensures tt)) .0;
       sized = c .pre .sized;
-      next = c .pre .next
+      next = c .pre .next;
     }
 
 pub returns-then-not-admit-series : need.returns-then-not-admit-series
