@@ -1,0 +1,35 @@
+//! The gate as a model: what it holds, what each call does and when it is refused, as definitions in `specs/`,
+//! and the law that holds after any list of calls, proved of them.
+//!
+//! The types are those that the gate keeps its tables in.
+mod conversion;
+mod theorem;
+mod phase;
+mod point;
+mod right;
+
+pub use conversion::Part;
+pub use conversion::PartDebug;
+pub use conversion::PartEq;
+pub use conversion::PartPartialEq;
+pub use conversion::Request;
+pub use conversion::RequestDebug;
+pub use conversion::RequestEq;
+pub use conversion::RequestPartialEq;
+pub use theorem::law_stands;
+pub use phase::Phase;
+pub use phase::PhaseDebug;
+pub use phase::PhaseEq;
+pub use phase::PhasePartialEq;
+pub use phase::Shown;
+pub use phase::ShownDebug;
+pub use phase::ShownEq;
+pub use phase::ShownPartialEq;
+pub use point::Point;
+pub use point::PointDebug;
+pub use point::PointEq;
+pub use point::PointPartialEq;
+pub use right::Right;
+pub use right::RightDebug;
+pub use right::RightEq;
+pub use right::RightPartialEq;
