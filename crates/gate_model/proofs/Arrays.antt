@@ -13,24 +13,24 @@ use Rattle.std.proofs.shelf.Tests.{cases-eq, eq-eqb, ne-eqb, cond-true, cond-fa
 use Rattle.std.proofs.shelf.Lists.{getD-set-same, getD-set-other, length-set}
 use Rattle.std.proofs.shelf.Ways.{tells}
 use Rattle.gate_model.specs.Sums.{sumZ}
-use Rattle.gate_model.specs.State.{Account, empty-account}
+use Rattle.gate_model.specs.State.{Account, emptyAccount}
 use Rattle.gate_model.specs.Requirement.{over}
 use Rattle.gate_model.specs.Effects.{changed, bears, spread}
 use Rattle.hours.specs.declared.period.Period.{Period}
 
 -- the customers' accounts, place 0 nobody's
 abbrev pub accounts-of : List Account → ℕ → Account
-accounts-of xs c = getD xs c empty-account
+accounts-of xs c = getD xs c emptyAccount
 
 pub set-is-changed : (xs : List Account) (c : ℕ) (change : Account → Account) → c < length xs → accounts-of (set xs c (change (accounts-of xs c))) ≡ changed (accounts-of xs) c change
 set-is-changed xs c change l = λ i k. at k i
   where
     at : (k : ℕ) → accounts-of (set xs c (change (accounts-of xs c))) k ≡ changed (accounts-of xs) c change k
     at k = ⊎-elim
-      (λ e. subst (λ j. accounts-of (set xs c (change (accounts-of xs c))) j ≡ changed (accounts-of xs) c change j) e
-        (getD-set-same xs c (change (accounts-of xs c)) empty-account l ∙ sym (cond-true (eqb c c) (change (accounts-of xs c)) (accounts-of xs c) (eq-eqb c c refl))))
-      (λ n. getD-set-other xs c k (change (accounts-of xs c)) empty-account (λ e. n (sym e)) ∙ sym (cond-false (eqb c k) (change (accounts-of xs k)) (accounts-of xs k) (ne-eqb c k n)))
-      (cases-eq c k)
+        (λ e. subst (λ j. accounts-of (set xs c (change (accounts-of xs c))) j ≡ changed (accounts-of xs) c change j) e
+        (getD-set-same xs c (change (accounts-of xs c)) emptyAccount l ∙ sym (cond-true (eqb c c) (change (accounts-of xs c)) (accounts-of xs c) (eq-eqb c c refl))))
+        (λ n. getD-set-other xs c k (change (accounts-of xs c)) emptyAccount (λ e. n (sym e)) ∙ sym (cond-false (eqb c k) (change (accounts-of xs k)) (accounts-of xs k) (ne-eqb c k n)))
+        (cases-eq c k)
 
 -- the costs of months 0 to 12, place 0 unused
 abbrev pub costs-of : List ℤ → ℕ → ℤ
@@ -66,13 +66,13 @@ raised-at xs a (suc n) z m l =
     let ys = set xs a (costs-of xs a +ℤ z) in
     let i = raised-at ys (suc a) n z m (let k = length-set xs a (costs-of xs a +ℤ z) in omega arith) in
     ⊎-elim
-      (λ e. subst (λ j. costs-of ys j +ℤ cond (inside (suc a) n j) z (pos 0) ≡ costs-of xs j +ℤ cond (inside a (suc n) j) z (pos 0)) (sym e)
-          (let g = getD-set-same xs a (costs-of xs a +ℤ z) (pos 0) (omega arith) in
-           let c1 = cond-false (inside (suc a) n a) z (pos 0) (inside-after a n) in
-           let c2 = cond-true (inside a (suc n) a) z (pos 0) (inside-first a n) in omega (arith, ints)) ◂ i)
-      (λ d. let g = getD-set-other xs a m (costs-of xs a +ℤ z) (pos 0) d in
-            let c = ap (λ b. cond b z (pos 0)) (inside-more a n m d) in omega (arith, ints))
-      (cases-eq m a)
+    (λ e. subst (λ j. costs-of ys j +ℤ cond (inside (suc a) n j) z (pos 0) ≡ costs-of xs j +ℤ cond (inside a (suc n) j) z (pos 0)) (sym e)
+    (let g = getD-set-same xs a (costs-of xs a +ℤ z) (pos 0) (omega arith) in
+    let c1 = cond-false (inside (suc a) n a) z (pos 0) (inside-after a n) in
+    let c2 = cond-true (inside a (suc n) a) z (pos 0) (inside-first a n) in omega (arith, ints)) ◂ i)
+    (λ d. let g = getD-set-other xs a m (costs-of xs a +ℤ z) (pos 0) d in
+    let c = ap (λ b. cond b z (pos 0)) (inside-more a n m d) in omega (arith, ints))
+    (cases-eq m a)
   where
     infixl 20 _◂_
     _◂_ : {x y w : ℤ} → y ≡ w → x ≡ y → x ≡ w

@@ -17,11 +17,11 @@ use Rattle.gate_model.specs.Money.{max0}
 use Rattle.gate_model.specs.Sums.{sumZ}
 use Rattle.gate_model.proofs.Sums.{sumZ-append}
 use Rattle.gate_model.specs.Measures.{Prices}
-use Rattle.gate_model.specs.State.{Account, Body, bid, offer, conversion, Item, State, right-at, item-at, new}
+use Rattle.gate_model.specs.State.{Account, Body, bid, offer, conversion, Item, State, rightAt, itemAt, new}
 use Rattle.gate_model.specs.Requirement.{mine, over, unsettled, monthly}
-use Rattle.gate_model.specs.Effects.{Line, bid-line, offer-line, changed, with-account, secured, charged, costed, drawn, settled, cleared, awarded, sale-cost, stands-too, item-of, stand, submitted, part-of, conversion-item, turned, month-charged}
-use Rattle.gate_model.specs.Calls.{Call, posting, returning, charge, invoice, payment, opening, submission, conversion-of, closing, award, ending, transfer, month-turn, new-book, Outcome}
-use Rattle.gate_model.specs.Grounds.{grounds, stands, lawful-award, lawful-on, costly, after-cents, cents}
+use Rattle.gate_model.specs.Effects.{Line, bidLine, offerLine, changed, withAccount, secured, charged, costed, drawn, settled, cleared, awarded, saleCost, standsToo, itemOf, stand, submitted, partOf, conversionItem, turned, monthCharged}
+use Rattle.gate_model.specs.Calls.{Call, posting, returning, charge, invoice, payment, opening, submission, conversionOf, closing, award, ending, transfer, monthTurn, newBook, Outcome}
+use Rattle.gate_model.specs.Grounds.{grounds, stands, lawfulAward, lawfulOn, costly, afterCents, cents}
 use Rattle.gate_model.specs.Run.{effect, step}
 use Rattle.gate_model.proofs.Months.{Ahead, unsettled-costed}
 use Rattle.gate_model.proofs.Blocks.{most-above, bid-cost, offer-cost}
@@ -62,71 +62,73 @@ may-add-above p o c rights (i ∷ is) h =
 cleared-cap : (o c d : ℕ) (p : Period) (y z g all rest cap : ℤ) (a : Account) → Ahead o p → (pos 12 *ℤ z) ≤ℤ g → (rest +ℤ mine c d g) ≡ all → (unsettled o a +ℤ all) ≤ℤ cap
     → (unsettled o (changed (changed (λ _. a) c (drawn y)) c (costed p (monthly p z)) d) +ℤ rest) ≤ℤ cap
 cleared-cap o c d p y z g all rest cap a h l e k =
-    (elim (eqb c d) as (λ b. (rest +ℤ cond b g (pos 0)) ≡ all → (unsettled o (cond b (costed p (monthly p z) (cond b (drawn y a) a)) (cond b (drawn y a) a)) +ℤ rest) ≤ℤ cap)
-      [ true ↦ λ q. let u = unsettled-costed o p z (drawn y a) h in
-                    subst (λ v. (v +ℤ rest) ≤ℤ cap) (sym u) (fits (unsettled o a) (pos 12 *ℤ z) g all rest cap l q k)
-      | false ↦ λ q. kept (unsettled o a) all rest cap q k ]) e
+    (elim (eqb c d) as (λ b. (rest +ℤ cond b g (pos 0)) ≡ all → (unsettled o (cond b (costed p (monthly p z) (cond b (drawn y a) a)) (cond b (drawn y a) a)) +ℤ rest) ≤ℤ cap) [
+      | true ↦ λ q. let u = unsettled-costed o p z (drawn y a) h in
+          subst (λ v. (v +ℤ rest) ≤ℤ cap) (sym u) (fits (unsettled o a) (pos 12 *ℤ z) g all rest cap l q k)
+      | false ↦ λ q. kept (unsettled o a) all rest cap q k
+    ]) e
   where
     fits : (u m g all rest cap : ℤ) → m ≤ℤ g → (rest +ℤ g) ≡ all → (u +ℤ all) ≤ℤ cap → ((u +ℤ m) +ℤ rest) ≤ℤ cap
     fits u m g all rest cap l q k = omega (arith, ints)
+
     kept : (u all rest cap : ℤ) → (rest +ℤ pos 0) ≡ all → (u +ℤ all) ≤ℤ cap → (u +ℤ rest) ≤ℤ cap
     kept u all rest cap q k = omega (arith, ints)
 
 settled-cap : (o c d : ℕ) (y g all rest cap : ℤ) (a : Account) → pos 0 ≤ℤ g → (rest +ℤ mine c d g) ≡ all → (unsettled o a +ℤ all) ≤ℤ cap → (unsettled o (changed (λ _. a) c (drawn y) d) +ℤ rest) ≤ℤ cap
 settled-cap o c d y g all rest cap a l e k =
     (elim (eqb c d) as (λ b. (rest +ℤ cond b g (pos 0)) ≡ all → (unsettled o (cond b (drawn y a) a) +ℤ rest) ≤ℤ cap)
-      [ true ↦ λ q. fits (unsettled o a) g all rest cap l q k | false ↦ λ q. fits (unsettled o a) (pos 0) all rest cap (omega (arith, ints)) q k ]) e
+    [ true ↦ λ q. fits (unsettled o a) g all rest cap l q k | false ↦ λ q. fits (unsettled o a) (pos 0) all rest cap (omega (arith, ints)) q k ]) e
   where
     fits : (u g all rest cap : ℤ) → pos 0 ≤ℤ g → (rest +ℤ g) ≡ all → (u +ℤ all) ≤ℤ cap → (u +ℤ rest) ≤ℤ cap
     fits u g all rest cap l q k = omega (arith, ints)
 
-cleared-capped : (s : State) (k w : ℕ) (x : ℤ) (b : Body) → stands s k ≡ true → Body-backed (s .prices) (s .month) (s .rights) (item-at k (s .items)) b → lawful-on b w x ≡ true
-    → Capped s → Capped (cleared (settled s k) (item-at k (s .items) .owner) b w x)
+cleared-capped : (s : State) (k w : ℕ) (x : ℤ) (b : Body) → stands s k ≡ true → Body-backed (s .prices) (s .month) (s .rights) (itemAt k (s .items)) b → lawfulOn b w x ≡ true
+    → Capped s → Capped (cleared (settled s k) (itemAt k (s .items) .owner) b w x)
 cleared-capped s k w x (bid key points price) t b l h d =
-    let i = item-at k (s .items) in
+    let i = itemAt k (s .items) in
     cleared-cap (s .month) (i .owner) d (key .slot .period) (negℤ (i .requirement)) (pos w *ℤ max0 x) (i .greatest) (may-add d (s .items)) (may-add d (settled s k .items)) (pos (10 ^ 16)) (s .accounts d) (b .ahead)
-      (subst (λ v. (pos 12 *ℤ (pos w *ℤ max0 x)) ≤ℤ v) (sym (b .greatest-is)) (bid-cost points w x l)) (settled-sum s k (λ j. mine (j .owner) d (j .greatest)) t) (h d)
+    (subst (λ v. (pos 12 *ℤ (pos w *ℤ max0 x)) ≤ℤ v) (sym (b .greatest-is)) (bid-cost points w x l)) (settled-sum s k (λ j. mine (j .owner) d (j .greatest)) t) (h d)
 cleared-capped s k w x (offer n points) t b l h d =
-    let i = item-at k (s .items) in
-    let r = right-at n (s .rights) in
-    cleared-cap (s .month) (i .owner) d (r .key .slot .period) (negℤ (i .requirement)) (sale-cost (r .original) w x) (i .greatest) (may-add d (s .items)) (may-add d (settled s k .items)) (pos (10 ^ 16)) (s .accounts d) (b .ahead)
-      (subst (λ v. (pos 12 *ℤ sale-cost (r .original) w x) ≤ℤ v) (sym (b .greatest-is)) (offer-cost (r .original) points w x l)) (settled-sum s k (λ j. mine (j .owner) d (j .greatest)) t) (h d)
+    let i = itemAt k (s .items) in
+    let r = rightAt n (s .rights) in
+    cleared-cap (s .month) (i .owner) d (r .key .slot .period) (negℤ (i .requirement)) (saleCost (r .original) w x) (i .greatest) (may-add d (s .items)) (may-add d (settled s k .items)) (pos (10 ^ 16)) (s .accounts d) (b .ahead)
+    (subst (λ v. (pos 12 *ℤ saleCost (r .original) w x) ≤ℤ v) (sym (b .greatest-is)) (offer-cost (r .original) points w x l)) (settled-sum s k (λ j. mine (j .owner) d (j .greatest)) t) (h d)
 cleared-capped s k w x (conversion parts) t b l h d =
-    let i = item-at k (s .items) in
+    let i = itemAt k (s .items) in
     settled-cap (s .month) (i .owner) d (negℤ (i .requirement)) (i .greatest) (may-add d (s .items)) (may-add d (settled s k .items)) (pos (10 ^ 16)) (s .accounts d)
-      (greatest-above (s .prices) (s .month) (s .rights) i (conversion parts) b) (settled-sum s k (λ j. mine (j .owner) d (j .greatest)) t) (h d)
+    (greatest-above (s .prices) (s .month) (s .rights) i (conversion parts) b) (settled-sum s k (λ j. mine (j .owner) d (j .greatest)) t) (h d)
 
-award-capped : (s : State) (k w : ℕ) (x : ℤ) → stands s k ≡ true → lawful-award (item-at k (s .items)) w x ≡ true → Sound s → Capped s → Capped (awarded s k w x)
+award-capped : (s : State) (k w : ℕ) (x : ℤ) → stands s k ≡ true → lawfulAward (itemAt k (s .items)) w x ≡ true → Sound s → Capped s → Capped (awarded s k w x)
 award-capped s k w x t l g h =
-    let i = item-at k (s .items) in
+    let i = itemAt k (s .items) in
     let b = item-backed s k t g in
     cond-both (eqb w 0) (settled s k) (cleared (settled s k) (i .owner) (i .body) w x) Capped
-      (λ _ d. settled-cap (s .month) (i .owner) d (negℤ (i .requirement)) (i .greatest) (may-add d (s .items)) (may-add d (settled s k .items)) (pos (10 ^ 16)) (s .accounts d)
-        (greatest-above (s .prices) (s .month) (s .rights) i (i .body) b) (settled-sum s k (λ j. mine (j .owner) d (j .greatest)) t) (h d))
-      (λ z. cleared-capped s k w x (i .body) t b (lawful-some i w x l z) h)
+    (λ _ d. settled-cap (s .month) (i .owner) d (negℤ (i .requirement)) (i .greatest) (may-add d (s .items)) (may-add d (settled s k .items)) (pos (10 ^ 16)) (s .accounts d)
+    (greatest-above (s .prices) (s .month) (s .rights) i (i .body) b) (settled-sum s k (λ j. mine (j .owner) d (j .greatest)) t) (h d))
+    (λ z. cleared-capped s k w x (i .body) t b (lawful-some i w x l z) h)
 
 -- an account changes in anything but its costs
-account-capped : (s : State) (c : ℕ) (change : Account → Account) → ((a : Account) → change a .costs ≡ a .costs) → Capped s → Capped (with-account s c change)
+account-capped : (s : State) (c : ℕ) (change : Account → Account) → ((a : Account) → change a .costs ≡ a .costs) → Capped s → Capped (withAccount s c change)
 account-capped s c change f h d =
     elim (eqb c d) as (λ b. (unsettled (s .month) (cond b (change (s .accounts d)) (s .accounts d)) +ℤ may-add d (s .items)) ≤ℤ pos (10 ^ 16))
-      [ true ↦ subst (λ y. (over y (s .month) (13 - s .month) +ℤ may-add d (s .items)) ≤ℤ pos (10 ^ 16)) (sym (f (s .accounts d))) (h d) | false ↦ h d ]
+    [ true ↦ subst (λ y. (over y (s .month) (13 - s .month) +ℤ may-add d (s .items)) ≤ℤ pos (10 ^ 16)) (sym (f (s .accounts d))) (h d) | false ↦ h d ]
 
 -- one more item: tested for its owner, or adding nothing
-stands-too-others : (s : State) (i : Item) (d : ℕ) → mine (i .owner) d (i .greatest) ≡ pos 0 → Capped s → (unsettled (s .month) (stands-too s i .accounts d) +ℤ may-add d (stands-too s i .items)) ≤ℤ pos (10 ^ 16)
+stands-too-others : (s : State) (i : Item) (d : ℕ) → mine (i .owner) d (i .greatest) ≡ pos 0 → Capped s → (unsettled (s .month) (standsToo s i .accounts d) +ℤ may-add d (standsToo s i .items)) ≤ℤ pos (10 ^ 16)
 stands-too-others s i d e h =
     let a = sumZ-append (λ j. mine (j .owner) d (j .greatest)) (s .items) (i ∷ []) in
     let k = account-capped s (i .owner) (drawn (i .requirement)) (λ _. refl) h d in
     omega (arith, ints)
 
-stands-too-capped : (s : State) (i : Item) → costly (stands-too s i) (i .owner) ≡ false → Capped s → Capped (stands-too s i)
+stands-too-capped : (s : State) (i : Item) → costly (standsToo s i) (i .owner) ≡ false → Capped s → Capped (standsToo s i)
 stands-too-capped s i t h d = ⊎-elim
-    (λ e. subst (λ c. (unsettled (s .month) (stands-too s i .accounts c) +ℤ may-add c (stands-too s i .items)) ≤ℤ pos (10 ^ 16)) (eqb-true (i .owner) d e) (omega (arith, ints)))
+    (λ e. subst (λ c. (unsettled (s .month) (standsToo s i .accounts c) +ℤ may-add c (standsToo s i .items)) ≤ℤ pos (10 ^ 16)) (eqb-true (i .owner) d e) (omega (arith, ints)))
     (λ e. stands-too-others s i d (ap (λ b. cond b (i .greatest) (pos 0)) e) h)
     (cases-bool (eqb (i .owner) d))
 
 line-capped : (c : ℕ) (p : Period) (s : State) (l : Line) → costly (stand c p s l) c ≡ false → Capped s → Capped (stand c p s l)
-line-capped c p s (bid-line path class points) t h = stands-too-capped s (item-of s c p (bid-line path class points)) t h
-line-capped c p s (offer-line k points) t h = stands-too-capped s (item-of s c p (offer-line k points)) t h
+line-capped c p s (bidLine path class points) t h = stands-too-capped s (itemOf s c p (bidLine path class points)) t h
+line-capped c p s (offerLine k points) t h = stands-too-capped s (itemOf s c p (offerLine k points)) t h
 
 submitted-capped : (c : ℕ) (p : Period) (ls : List Line) (s : State) → Passes (stand c p) (λ t l. costly (stand c p t l) c) s ls → Capped s → Capped (submitted s c p ls)
 submitted-capped c p [] s t h = h
@@ -154,21 +156,21 @@ turned-capped s g h d =
     omega (arith, ints)
 
 effect-capped : (s : State) (call : Call) → Sound s → Costed s → Capped s → All Unmet (grounds s call) → Capped (effect s call .1)
-effect-capped s (posting c n) g k h t = account-capped s c (secured (cents (after-cents s c n))) (λ _. refl) h
-effect-capped s (returning c n) g k h t = account-capped s c (secured (cents (after-cents s c (negℤ n)))) (λ _. refl) h
+effect-capped s (posting c n) g k h t = account-capped s c (secured (cents (afterCents s c n))) (λ _. refl) h
+effect-capped s (returning c n) g k h t = account-capped s c (secured (cents (afterCents s c (negℤ n)))) (λ _. refl) h
 effect-capped s (charge c n) g k h t = account-capped s c (λ a. charged (a .invoiced) (a .calculated +ℤ n) a) (λ _. refl) h
 effect-capped s (invoice c) g k h t = account-capped s c (λ a. charged (a .invoiced +ℤ a .calculated) (pos 0) a) (λ _. refl) h
 effect-capped s (payment c) g k h t = account-capped s c (λ a. charged (pos 0) (a .calculated) a) (λ _. refl) h
 effect-capped s (opening p) g k h t = h
 effect-capped s (submission w c lines) g k h t = submitted-capped c (w .period) lines s (standing-passed (stand c (w .period)) _ 1 s lines (t .1 .1 .1 .1 .1 .1 .1 .1 .0)) h
-effect-capped s (conversion-of w c lines) g k h t = λ d.
-    stands-too-others s (conversion-item (length (s .items) + 1) c (map (part-of s (w .period)) lines)) d (cond-both (eqb c d) (pos 0) (pos 0) (λ z. z ≡ pos 0) (λ _. refl) (λ _. refl)) h
+effect-capped s (conversionOf w c lines) g k h t = λ d.
+    stands-too-others s (conversionItem (length (s .items) + 1) c (map (partOf s (w .period)) lines)) d (cond-both (eqb c d) (pos 0) (pos 0) (λ z. z ≡ pos 0) (λ _. refl) (λ _. refl)) h
 effect-capped s (closing w) g k h t = h
 effect-capped s (award w i q x) g k h t = let t13 = and-parts (stands s i) _ (not-passed _ (t .1 .0)) in award-capped s i q x (t13 .0) (t13 .1) g h
 effect-capped s (ending w) g k h t = λ d. let a = may-add-above (s .prices) (s .month) d (s .rights) (s .items) (g .backed) in let b = h d in omega (arith, ints)
 effect-capped s (transfer seller buyer i q) g k h t = h
-effect-capped s month-turn g k h t = turned-capped s k h
-effect-capped s (new-book p) g k h t = h
+effect-capped s monthTurn g k h t = turned-capped s k h
+effect-capped s (newBook p) g k h t = h
 
 pub step-capped : (s : State) (call : Call) → Sound s → Costed s → Capped s → Capped (step s call .1)
 step-capped s call g k h = decided-keeps (λ n _. Capped n) (grounds s call) s (effect s call) h (effect-capped s call g k h)

@@ -14,14 +14,14 @@ use Rattle.std.proofs.shelf.Signed.{ints}
 use Rattle.std.proofs.shelf.Tests.{cases-bool, cond-both, cond-true, cond-false, and-parts, eqb-true, both-ways, ltb-true, lt-ltb}
 use Rattle.gate_model.specs.Sums.{sumZ}
 use Rattle.gate_model.proofs.Sums.{sumZ-append}
-use Rattle.gate_model.specs.Measures.{Prices, unfinished, same-period}
-use Rattle.gate_model.specs.State.{Account, Body, bid, offer, conversion, Item, State, right-at, item-at}
-use Rattle.gate_model.specs.Effects.{Line, less, lessened, right-for, rights-of, settled, cleared, awarded, stand, submitted, transferred, turned, repriced, rebooked}
-use Rattle.gate_model.specs.Calls.{Call, posting, returning, charge, invoice, payment, opening, submission, conversion-of, closing, award, ending, transfer, month-turn, new-book, Outcome}
+use Rattle.gate_model.specs.Measures.{Prices, unfinished, samePeriod}
+use Rattle.gate_model.specs.State.{Account, Body, bid, offer, conversion, Item, State, rightAt, itemAt}
+use Rattle.gate_model.specs.Effects.{Line, less, lessened, rightFor, rightsOf, settled, cleared, awarded, stand, submitted, transferred, turned, repriced, rebooked}
+use Rattle.gate_model.specs.Calls.{Call, posting, returning, charge, invoice, payment, opening, submission, conversionOf, closing, award, ending, transfer, monthTurn, newBook, Outcome}
 use Rattle.gate_model.specs.Requirement.{committed}
-use Rattle.gate_model.specs.Grounds.{Met, grounds, approved, stands, lawful-award, lawful-on}
+use Rattle.gate_model.specs.Grounds.{Met, grounds, approved, stands, lawfulAward, lawfulOn}
 use Rattle.gate_model.specs.Run.{effect, step, next}
-use Rattle.gate_model.specs.Conservation.{of-key, held, buys, converts, sells, clears, along}
+use Rattle.gate_model.specs.Conservation.{ofKey, held, buys, converts, sells, clears, along}
 use Rattle.gate_model.proofs.Rights.{lessened-sum}
 use Rattle.gate_model.proofs.Sound.{Body-backed, Sound}
 use Rattle.gate_model.proofs.Award.{Takes, offer-takes, item-backed, lawful-some}
@@ -36,48 +36,48 @@ use Rattle.gate_model.specs.declared.right.Right.{Right}
 use Rattle.gate_model.specs.declared.phase.Shown.{Shown}
 use Rattle.books.specs.Keys.{sameKey}
 
-none-of-key : (k key : Key) → of-key k key 0 ≡ pos 0
+none-of-key : (k key : Key) → ofKey k key 0 ≡ pos 0
 none-of-key k key = cond-both (sameKey key k) (pos 0) (pos 0) (λ z. z ≡ pos 0) (λ _. refl) (λ _. refl)
 
-of-key-parts : (k key : Key) (q w : ℕ) → w ≤ q → (of-key k key (q - w) +ℤ of-key k key w) ≡ of-key k key q
+of-key-parts : (k key : Key) (q w : ℕ) → w ≤ q → (ofKey k key (q - w) +ℤ ofKey k key w) ≡ ofKey k key q
 of-key-parts k key q w l =
     elim (sameKey key k) as (λ b. (cond b (pos (q - w)) (pos 0) +ℤ cond b (pos w) (pos 0)) ≡ cond b (pos q) (pos 0)) [ true ↦ omega (arith, ints) | false ↦ omega (arith, ints) ]
 
 -- a right loses w of its key
-held-less : (k : Key) (n w : ℕ) (rights : List Right) → 1 ≤ right-at n rights .megawatts → w ≤ right-at n rights .megawatts
-    → (sumZ (λ r. of-key k (r .key) (r .megawatts)) (lessened n w rights) +ℤ of-key k (right-at n rights .key) w) ≡ sumZ (λ r. of-key k (r .key) (r .megawatts)) rights
+held-less : (k : Key) (n w : ℕ) (rights : List Right) → 1 ≤ rightAt n rights .megawatts → w ≤ rightAt n rights .megawatts
+    → (sumZ (λ r. ofKey k (r .key) (r .megawatts)) (lessened n w rights) +ℤ ofKey k (rightAt n rights .key) w) ≡ sumZ (λ r. ofKey k (r .key) (r .megawatts)) rights
 held-less k n w rights some enough =
-    let r = right-at n rights in
-    let s = lessened-sum (λ r. of-key k (r .key) (r .megawatts)) (of-key k (r .key)) n w rights some enough (none-of-key k (r .key)) refl refl in
+    let r = rightAt n rights in
+    let s = lessened-sum (λ r. ofKey k (r .key) (r .megawatts)) (ofKey k (r .key)) n w rights some enough (none-of-key k (r .key)) refl refl in
     let p = of-key-parts k (r .key) (r .megawatts) w enough in
     omega (arith, ints)
 
-held-parts : (k : Key) (given c : ℕ) (parts : List Part) → sumZ (λ r. of-key k (r .key) (r .megawatts)) (rights-of given c parts) ≡ sumZ (λ l. of-key k (l .key) (l .megawatts)) parts
+held-parts : (k : Key) (given c : ℕ) (parts : List Part) → sumZ (λ r. ofKey k (r .key) (r .megawatts)) (rightsOf given c parts) ≡ sumZ (λ l. ofKey k (l .key) (l .megawatts)) parts
 held-parts k given c [] = refl
-held-parts k given c (l ∷ ls) = ap (λ z. of-key k (l .key) (l .megawatts) +ℤ z) (held-parts k (given + 1) c ls)
+held-parts k given c (l ∷ ls) = ap (λ z. ofKey k (l .key) (l .megawatts) +ℤ z) (held-parts k (given + 1) c ls)
 
-held-repriced : (k : Key) (p : Prices) (rights : List Right) → sumZ (λ r. of-key k (r .key) (r .megawatts)) (map (repriced p) rights) ≡ sumZ (λ r. of-key k (r .key) (r .megawatts)) rights
+held-repriced : (k : Key) (p : Prices) (rights : List Right) → sumZ (λ r. ofKey k (r .key) (r .megawatts)) (map (repriced p) rights) ≡ sumZ (λ r. ofKey k (r .key) (r .megawatts)) rights
 held-repriced k p [] = refl
-held-repriced k p (r ∷ rs) = ap (λ z. of-key k (r .key) (r .megawatts) +ℤ z) (held-repriced k p rs)
+held-repriced k p (r ∷ rs) = ap (λ z. ofKey k (r .key) (r .megawatts) +ℤ z) (held-repriced k p rs)
 
 kept-all : {X : Type 0} (f : X → ℤ) (p : X → Bool) → ((x : X) → p x ≡ false → f x ≡ pos 0) → (xs : List X) → sumZ f (kept-by p xs) ≡ sumZ f xs
 kept-all f p h [] = refl
 kept-all f p h (x ∷ xs) =
     let r = kept-all f p h xs in
     (elim (p x) as (λ b. p x ≡ b → sumZ f (cond b (x ∷ kept-by p xs) (kept-by p xs)) ≡ (f x +ℤ sumZ f xs))
-      [ true ↦ λ _. omega (arith, ints) | false ↦ λ e. let z = h x e in omega (arith, ints) ]) refl
+    [ true ↦ λ _. omega (arith, ints) | false ↦ λ e. let z = h x e in omega (arith, ints) ]) refl
 
 -- a right of an unfinished key is unfinished
-finished-none : (k : Key) (o : ℕ) → unfinished o (k .slot .period) ≡ true → (r : Right) → unfinished o (r .key .slot .period) ≡ false → of-key k (r .key) (r .megawatts) ≡ pos 0
+finished-none : (k : Key) (o : ℕ) → unfinished o (k .slot .period) ≡ true → (r : Right) → unfinished o (r .key .slot .period) ≡ false → ofKey k (r .key) (r .megawatts) ≡ pos 0
 finished-none k o u r n = cond-both (sameKey (r .key) k) (pos (r .megawatts)) (pos 0) (λ z. z ≡ pos 0)
     (λ e.
-      let e2 = and-parts (eqb (r .key .path .source) (k .path .source)) _ e in
-      let e3 = and-parts (eqb (r .key .path .sink) (k .path .sink)) _ (e2 .1) in
-      let e4 = and-parts (eqb (r .key .slot .period .first) (k .slot .period .first)) _ (e3 .1) in
-      let e5 = and-parts (eqb (r .key .slot .period .months) (k .slot .period .months)) _ (e4 .1) in
-      let f = eqb-true _ _ (e4 .0) in
-      let m = eqb-true _ _ (e5 .0) in
-      absurd (both-ways (unfinished o (r .key .slot .period)) n ((λ i. ltb o (f i + m i)) ∙ u)))
+    let e2 = and-parts (eqb (r .key .path .source) (k .path .source)) _ e in
+    let e3 = and-parts (eqb (r .key .path .sink) (k .path .sink)) _ (e2 .1) in
+    let e4 = and-parts (eqb (r .key .slot .period .first) (k .slot .period .first)) _ (e3 .1) in
+    let e5 = and-parts (eqb (r .key .slot .period .months) (k .slot .period .months)) _ (e4 .1) in
+    let f = eqb-true _ _ (e4 .0) in
+    let m = eqb-true _ _ (e5 .0) in
+    absurd (both-ways (unfinished o (r .key .slot .period)) n ((λ i. ltb o (f i + m i)) ∙ u)))
     (λ _. refl)
 
 submitted-rights : (c : ℕ) (p : Period) (ls : List Line) (s : State) → submitted s c p ls .rights ≡ s .rights
@@ -90,34 +90,34 @@ submitted-month c p (l ∷ ls) s = submitted-month c p ls (stand c p s l)
 
 -- an award on the item i
 zero-moves : (k : Key) (s : State) (w : ℕ) (b : Body) → eqb w 0 ≡ true → (held k s +ℤ sells k s b w) ≡ ((held k s +ℤ buys k s b w) +ℤ converts k s b w)
-zero-moves k s w (bid key points price) e = let z = ap (of-key k key) (eqb-true w 0 e) ∙ none-of-key k key in omega (arith, ints)
-zero-moves k s w (offer n points) e = let z = ap (of-key k (right-at n (s .rights) .key)) (eqb-true w 0 e) ∙ none-of-key k (right-at n (s .rights) .key) in omega (arith, ints)
-zero-moves k s w (conversion parts) e = let z = cond-true (eqb w 0) (pos 0) (sumZ (λ l. of-key k (l .key) (l .megawatts)) parts) e in omega (arith, ints)
+zero-moves k s w (bid key points price) e = let z = ap (ofKey k key) (eqb-true w 0 e) ∙ none-of-key k key in omega (arith, ints)
+zero-moves k s w (offer n points) e = let z = ap (ofKey k (rightAt n (s .rights) .key)) (eqb-true w 0 e) ∙ none-of-key k (rightAt n (s .rights) .key) in omega (arith, ints)
+zero-moves k s w (conversion parts) e = let z = cond-true (eqb w 0) (pos 0) (sumZ (λ l. ofKey k (l .key) (l .megawatts)) parts) e in omega (arith, ints)
 
-some-moves : (k : Key) (s : State) (i w : ℕ) (x : ℤ) (b : Body) → b ≡ item-at i (s .items) .body → stands s i ≡ true → Sound s
-    → Body-backed (s .prices) (s .month) (s .rights) (item-at i (s .items)) b → lawful-on b w x ≡ true → eqb w 0 ≡ false
-    → (held k (cleared (settled s i) (item-at i (s .items) .owner) b w x) +ℤ sells k s b w) ≡ ((held k s +ℤ buys k s b w) +ℤ converts k s b w)
+some-moves : (k : Key) (s : State) (i w : ℕ) (x : ℤ) (b : Body) → b ≡ itemAt i (s .items) .body → stands s i ≡ true → Sound s
+    → Body-backed (s .prices) (s .month) (s .rights) (itemAt i (s .items)) b → lawfulOn b w x ≡ true → eqb w 0 ≡ false
+    → (held k (cleared (settled s i) (itemAt i (s .items) .owner) b w x) +ℤ sells k s b w) ≡ ((held k s +ℤ buys k s b w) +ℤ converts k s b w)
 some-moves k s i w x (bid key points price) e t h b l z =
-    let a = sumZ-append (λ r. of-key k (r .key) (r .megawatts)) (s .rights) (right-for (s .given + 1) (item-at i (s .items) .owner) key w price x ∷ []) in
+    let a = sumZ-append (λ r. ofKey k (r .key) (r .megawatts)) (s .rights) (rightFor (s .given + 1) (itemAt i (s .items) .owner) key w price x ∷ []) in
     omega (arith, ints)
 some-moves k s i w x (offer n points) e t h b l z =
     let u = offer-takes s i w n x points t h (sym e) b l in
     let a = held-less k n w (s .rights) (u .some) (u .enough) in
     omega (arith, ints)
 some-moves k s i w x (conversion parts) e t h b l z =
-    let c = item-at i (s .items) .owner in
-    let a = sumZ-append (λ r. of-key k (r .key) (r .megawatts)) (s .rights) (rights-of (s .given) c parts) in
+    let c = itemAt i (s .items) .owner in
+    let a = sumZ-append (λ r. ofKey k (r .key) (r .megawatts)) (s .rights) (rightsOf (s .given) c parts) in
     let q = held-parts k (s .given) c parts in
-    let y = cond-false (eqb w 0) (pos 0) (sumZ (λ l. of-key k (l .key) (l .megawatts)) parts) z in
+    let y = cond-false (eqb w 0) (pos 0) (sumZ (λ l. ofKey k (l .key) (l .megawatts)) parts) z in
     omega (arith, ints)
 
-award-moves : (k : Key) (s : State) (i w : ℕ) (x : ℤ) → stands s i ≡ true → lawful-award (item-at i (s .items)) w x ≡ true → Sound s
-    → (held k (awarded s i w x) +ℤ sells k s (item-at i (s .items) .body) w) ≡ ((held k s +ℤ buys k s (item-at i (s .items) .body) w) +ℤ converts k s (item-at i (s .items) .body) w)
+award-moves : (k : Key) (s : State) (i w : ℕ) (x : ℤ) → stands s i ≡ true → lawfulAward (itemAt i (s .items)) w x ≡ true → Sound s
+    → (held k (awarded s i w x) +ℤ sells k s (itemAt i (s .items) .body) w) ≡ ((held k s +ℤ buys k s (itemAt i (s .items) .body) w) +ℤ converts k s (itemAt i (s .items) .body) w)
 award-moves k s i w x t l h =
-    let b = item-at i (s .items) .body in
-    cond-both (eqb w 0) (settled s i) (cleared (settled s i) (item-at i (s .items) .owner) b w x) (λ n. (held k n +ℤ sells k s b w) ≡ ((held k s +ℤ buys k s b w) +ℤ converts k s b w))
-      (λ z. zero-moves k s w b z)
-      (λ z. some-moves k s i w x b refl t h (item-backed s i t h) (lawful-some (item-at i (s .items)) w x l z) z)
+    let b = itemAt i (s .items) .body in
+    cond-both (eqb w 0) (settled s i) (cleared (settled s i) (itemAt i (s .items) .owner) b w x) (λ n. (held k n +ℤ sells k s b w) ≡ ((held k s +ℤ buys k s b w) +ℤ converts k s b w))
+    (λ z. zero-moves k s w b z)
+    (λ z. some-moves k s i w x b refl t h (item-backed s i t h) (lawful-some (itemAt i (s .items)) w x l z) z)
 
 -- nothing moved
 still : (x y : ℤ) → x ≡ y → (x +ℤ pos 0) ≡ ((y +ℤ pos 0) +ℤ pos 0)
@@ -133,11 +133,11 @@ transferred-held k s seller buyer i q t =
     let c = committed-above i (s .items) in
     let f = t .free in
     let m = t .some in
-    let r = right-at i (s .rights) in
+    let r = rightAt i (s .rights) in
     let m1 : 1 ≤ r .megawatts = omega (arith, ints) in
     let m2 : q ≤ r .megawatts = omega (arith, ints) in
     let a = held-less k i q (s .rights) m1 m2 in
-    let b = sumZ-append (λ r. of-key k (r .key) (r .megawatts)) (lessened i q (s .rights)) (right-for (s .given + 1) buyer (r .key) q (r .price) (pos 0) ∷ []) in
+    let b = sumZ-append (λ r. ofKey k (r .key) (r .megawatts)) (lessened i q (s .rights)) (rightFor (s .given + 1) buyer (r .key) q (r .price) (pos 0) ∷ []) in
     omega (arith, ints)
 
 abbrev Moves : Key → State → Call → State → Type 0
@@ -150,19 +150,19 @@ step-moves k s (charge c n) h = unmoved k s (charge c n) (λ _ _. refl)
 step-moves k s (invoice c) h = unmoved k s (invoice c) (λ _ _. refl)
 step-moves k s (payment c) h = unmoved k s (payment c) (λ _ _. refl)
 step-moves k s (opening p) h = unmoved k s (opening p) (λ _ _. refl)
-step-moves k s (submission w c lines) h = unmoved k s (submission w c lines) (λ _ _. ap (sumZ (λ r. of-key k (r .key) (r .megawatts))) (submitted-rights c (w .period) lines s))
-step-moves k s (conversion-of w c lines) h = unmoved k s (conversion-of w c lines) (λ _ _. refl)
+step-moves k s (submission w c lines) h = unmoved k s (submission w c lines) (λ _ _. ap (sumZ (λ r. ofKey k (r .key) (r .megawatts))) (submitted-rights c (w .period) lines s))
+step-moves k s (conversionOf w c lines) h = unmoved k s (conversionOf w c lines) (λ _ _. refl)
 step-moves k s (closing w) h = unmoved k s (closing w) (λ _ _. refl)
 step-moves k s (award w i q x) h =
-    let b = item-at i (s .items) .body in
+    let b = itemAt i (s .items) .body in
     decided-keeps (λ n t. unfinished (n .month) (k .slot .period) ≡ true → (held k n +ℤ cond t (sells k s b q) (pos 0)) ≡ ((held k s +ℤ cond t (buys k s b q) (pos 0)) +ℤ cond t (converts k s b q) (pos 0)))
-      (grounds s (award w i q x)) s (effect s (award w i q x)) (λ _. still (held k s) (held k s) refl)
-      (λ g u. let g13 = and-parts (stands s i) _ (not-passed _ (g .1 .0)) in award-moves k s i q x (g13 .0) (g13 .1) h)
+    (grounds s (award w i q x)) s (effect s (award w i q x)) (λ _. still (held k s) (held k s) refl)
+    (λ g u. let g13 = and-parts (stands s i) _ (not-passed _ (g .1 .0)) in award-moves k s i q x (g13 .0) (g13 .1) h)
 step-moves k s (ending w) h = unmoved k s (ending w) (λ _ _. refl)
 step-moves k s (transfer seller buyer i q) h = unmoved k s (transfer seller buyer i q) (λ g _. transferred-held k s seller buyer i q (transfer-passed s seller buyer i q g))
-step-moves k s month-turn h = unmoved k s month-turn
-    (λ _ u. kept-all (λ r. of-key k (r .key) (r .megawatts)) (λ r. unfinished (s .month + 1) (r .key .slot .period)) (finished-none k (s .month + 1) u) (s .rights))
-step-moves k s (new-book p) h = unmoved k s (new-book p) (λ _ _. held-repriced k p (s .rights))
+step-moves k s monthTurn h = unmoved k s monthTurn
+    (λ _ u. kept-all (λ r. ofKey k (r .key) (r .megawatts)) (λ r. unfinished (s .month + 1) (r .key .slot .period)) (finished-none k (s .month + 1) u) (s .rights))
+step-moves k s (newBook p) h = unmoved k s (newBook p) (λ _ _. held-repriced k p (s .rights))
 
 -- the open month never falls
 cleared-month : (s : State) (c : ℕ) (b : Body) (w : ℕ) (x : ℤ) → cleared s c b w x .month ≡ s .month
@@ -178,14 +178,14 @@ effect-month s (invoice c) = omega arith
 effect-month s (payment c) = omega arith
 effect-month s (opening p) = omega arith
 effect-month s (submission w c lines) = let e = submitted-month c (w .period) lines s in omega arith
-effect-month s (conversion-of w c lines) = omega arith
+effect-month s (conversionOf w c lines) = omega arith
 effect-month s (closing w) = omega arith
-effect-month s (award w i q x) = cond-both (eqb q 0) (settled s i) (cleared (settled s i) (item-at i (s .items) .owner) (item-at i (s .items) .body) q x) (λ n. s .month ≤ n .month)
-    (λ _. omega arith) (λ _. let e = cleared-month (settled s i) (item-at i (s .items) .owner) (item-at i (s .items) .body) q x in omega arith)
+effect-month s (award w i q x) = cond-both (eqb q 0) (settled s i) (cleared (settled s i) (itemAt i (s .items) .owner) (itemAt i (s .items) .body) q x) (λ n. s .month ≤ n .month)
+    (λ _. omega arith) (λ _. let e = cleared-month (settled s i) (itemAt i (s .items) .owner) (itemAt i (s .items) .body) q x in omega arith)
 effect-month s (ending w) = omega arith
 effect-month s (transfer seller buyer i q) = omega arith
-effect-month s month-turn = omega arith
-effect-month s (new-book p) = omega arith
+effect-month s monthTurn = omega arith
+effect-month s (newBook p) = omega arith
 
 step-month : (s : State) (call : Call) → s .month ≤ step s call .1 .month
 step-month s call = decided-keeps (λ n _. s .month ≤ n .month) (grounds s call) s (effect s call) (omega arith) (λ _. effect-month s call)
@@ -207,7 +207,7 @@ calls-move k (call ∷ calls) os s h u =
     let m = calls-month calls ot n in
     let t = step-moves k s call h (earlier (n .month) (folded next (ot, n) calls .1 .month) (k .slot .period) m u) in
     joined (held k (folded next (ot, n) calls .1)) (along (clears (sells k)) n calls) (held k n) (held k s) (along (clears (buys k)) n calls) (along (clears (converts k)) n calls)
-      (clears (buys k) s call) (clears (converts k) s call) (clears (sells k) s call) r t
+    (clears (buys k) s call) (clears (converts k) s call) (clears (sells k) s call) r t
   where
     joined : (e x n s b c sb sc ss : ℤ) → (e +ℤ x) ≡ ((n +ℤ b) +ℤ c) → (n +ℤ ss) ≡ ((s +ℤ sb) +ℤ sc) → (e +ℤ (ss +ℤ x)) ≡ ((s +ℤ (sb +ℤ b)) +ℤ (sc +ℤ c))
     joined e x n s b c sb sc ss p q = omega (arith, ints)

@@ -6,10 +6,10 @@ use lib.IntN.{ℤ, pos, negsuc}
 use Rattle.std.specs.declared.result.Result.{Result}
 use Rattle.std.specs.declared.result.Result.the-variants.{Ok, Err}
 use Rattle.gate_model.specs.Measures.{Prices}
-use Rattle.gate_model.specs.Curves.{bid-requirement, offer-requirement, conversion-requirement}
+use Rattle.gate_model.specs.Curves.{bidRequirement, offerRequirement, conversionRequirement}
 use Rattle.gate_model.specs.Requirement.{total}
-use Rattle.gate_model.specs.Effects.{Line, bid-line}
-use Rattle.gate_model.specs.Calls.{Call, Outcome, posting, opening, submission, closing, award, security-is, opened, stand-from-to, refused, plain, closed, rights-from-to}
+use Rattle.gate_model.specs.Effects.{Line, bidLine}
+use Rattle.gate_model.specs.Calls.{Call, Outcome, posting, opening, submission, closing, award, securityIs, opened, standFromTo, refused, plain, closed, rightsFromTo}
 use Rattle.gate_model.specs.Run.{run, reached}
 use Rattle.hours.specs.declared.period.Period.{Period}
 use Rattle.books.specs.declared.key.Key.{Key}
@@ -26,22 +26,22 @@ key = record { path = record { source = 0; sink = 1 }; slot = record { period = 
 abbrev part : ℕ → ℤ → Part
 part q c = record { key = key; megawatts = q; price = c }
 
-bid-figure : bid-requirement (pos 400) (point 100 (pos 500) ∷ point 200 (pos 470) ∷ []) ≡ pos 168000
+bid-figure : bidRequirement (pos 400) (point 100 (pos 500) ∷ point 200 (pos 470) ∷ []) ≡ pos 168000
 bid-figure = refl
 
-low-bid-figure : bid-requirement (negsuc 499) (point 100 (negsuc 299) ∷ []) ≡ pos 600000
+low-bid-figure : bidRequirement (negsuc 499) (point 100 (negsuc 299) ∷ []) ≡ pos 600000
 low-bid-figure = refl
 
-offer-figure : offer-requirement (pos 400) (pos 250) (point 50 (pos 100) ∷ []) ≡ pos 330000
+offer-figure : offerRequirement (pos 400) (pos 250) (point 50 (pos 100) ∷ []) ≡ pos 330000
 offer-figure = refl
 
-low-offer-figure : offer-requirement (negsuc 399) (pos 250) (point 50 (pos 300) ∷ []) ≡ pos 0
+low-offer-figure : offerRequirement (negsuc 399) (pos 250) (point 50 (pos 300) ∷ []) ≡ pos 0
 low-offer-figure = refl
 
-conversion-figure : conversion-requirement (part 100 (pos 200) ∷ part 100 (negsuc 299) ∷ []) ≡ pos 144000
+conversion-figure : conversionRequirement (part 100 (pos 200) ∷ part 100 (negsuc 299) ∷ []) ≡ pos 144000
 conversion-figure = refl
 
-free-conversion-figure : conversion-requirement (part 100 (pos 300) ∷ part 100 (negsuc 199) ∷ []) ≡ pos 0
+free-conversion-figure : conversionRequirement (part 100 (pos 300) ∷ part 100 (negsuc 199) ∷ []) ≡ pos 0
 free-conversion-figure = refl
 
 abbrev flat : Prices
@@ -51,21 +51,21 @@ abbrev first-window : Shown
 first-window = record { auction = 1; period = record { first = 1; months = 1 } }
 
 abbrev day : ℤ → List Call
-day cents = posting 1 cents ∷ opening (record { first = 1; months = 1 }) ∷ submission first-window 1 (bid-line (record { source = 0; sink = 1 }) 0 (point 100 (pos 300) ∷ []) ∷ []) ∷ []
+day cents = posting 1 cents ∷ opening (record { first = 1; months = 1 }) ∷ submission first-window 1 (bidLine (record { source = 0; sink = 1 }) 0 (point 100 (pos 300) ∷ []) ∷ []) ∷ []
 
 abbrev cleared-day : List Call
-cleared-day = posting 1 (pos 8000) ∷ opening (record { first = 1; months = 1 }) ∷ submission first-window 1 (bid-line (record { source = 0; sink = 1 }) 0 (point 100 (pos 300) ∷ []) ∷ []) ∷ closing first-window ∷ award first-window 1 50 (pos 200) ∷ []
+cleared-day = posting 1 (pos 8000) ∷ opening (record { first = 1; months = 1 }) ∷ submission first-window 1 (bidLine (record { source = 0; sink = 1 }) 0 (point 100 (pos 300) ∷ []) ∷ []) ∷ closing first-window ∷ award first-window 1 50 (pos 200) ∷ []
 
-approved-day : run flat (day (pos 8000)) .0 ≡ security-is 8000 ∷ opened 1 ∷ stand-from-to 1 1 ∷ []
+approved-day : run flat (day (pos 8000)) .0 ≡ securityIs 8000 ∷ opened 1 ∷ standFromTo 1 1 ∷ []
 approved-day = refl
 
 total-stood : total (reached flat (day (pos 8000))) 1 ≡ pos 960000
 total-stood = refl
 
-refused-day : run flat (day (pos 7999)) .0 ≡ security-is 7999 ∷ opened 1 ∷ refused 12 1 plain ∷ []
+refused-day : run flat (day (pos 7999)) .0 ≡ securityIs 7999 ∷ opened 1 ∷ refused 12 1 plain ∷ []
 refused-day = refl
 
-cleared-figure : run flat cleared-day .0 ≡ security-is 8000 ∷ opened 1 ∷ stand-from-to 1 1 ∷ closed 1 ∷ rights-from-to 1 1 ∷ []
+cleared-figure : run flat cleared-day .0 ≡ securityIs 8000 ∷ opened 1 ∷ standFromTo 1 1 ∷ closed 1 ∷ rightsFromTo 1 1 ∷ []
 cleared-figure = refl
 
 total-cleared : total (reached flat cleared-day) 1 ≡ pos 420000

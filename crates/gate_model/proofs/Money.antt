@@ -9,7 +9,7 @@ use Rattle.std.specs.Numbers.{maxZ}
 use borrow.Author.Differences.{up, down, sum-is}
 use Rattle.std.proofs.shelf.Signed.{ints, clamps}
 use Rattle.std.specs.shelf.Lists.{All}
-use Rattle.gate_model.specs.Money.{max0, floorZ, Parts, one, two, three, four, six, twelve, Bid-law, Offer-law, Conversion-law, Parts-law, Floor-law, greatest, Money-laws}
+use Rattle.gate_model.specs.Money.{max0, floorZ, Parts, one, two, three, four, six, twelve, BidLaw, OfferLaw, ConversionLaw, PartsLaw, FloorLaw, greatest, MoneyLaws}
 
 -- for omega: max0 as up and down
 pub max0-is : (x : ℤ) → (up (max0 x) ≡ up x - down x) × (down (max0 x) ≡ 0)
@@ -23,7 +23,7 @@ scaled w q (pos n) (negsuc m) h l = absurd (omega (arith, ints))
 scaled w q (negsuc n) (pos m) h l = omega (arith, ints, max0-is)
 scaled w q (negsuc n) (negsuc m) h l = omega (arith, ints, max0-is)
 
-bid : Bid-law
+bid : BidLaw
 bid w q x c r h l = scaled (12 * w) (12 * q) (max0 x -ℤ r) (max0 c -ℤ r) (omega arith) (omega (arith, ints, max0-is))
 
 -- the same with nothing cut off, where the larger number is at least 0
@@ -31,7 +31,7 @@ pub scaled-up : (w q : ℕ) (e d : ℤ) → w ≤ q → e ≤ℤ d → pos 0 ≤
 scaled-up w q e (pos m) h l g = scaled w q e (pos m) h l
 scaled-up w q e (negsuc m) h l g = absurd (omega (arith, ints))
 
-offer : Offer-law
+offer : OfferLaw
 offer w q x c a r h l = scaled-up (12 * w) (12 * q) (r +ℤ max0 (a -ℤ x) -ℤ max0 a) (max0 r +ℤ max0 (a -ℤ c)) (omega arith) (omega (arith, ints, max0-is)) (omega (arith, ints, max0-is))
 
 -- for omega: floorZ at a divisor above 0
@@ -40,10 +40,10 @@ pub floor-is : (z : ℤ) (k : ℕ) → 0 < k
 floor-is (pos a) k h = omega arith
 floor-is (negsuc a) k h = omega arith
 
-conversion : Conversion-law
+conversion : ConversionLaw
 conversion p n hp hn = omega (arith, ints, max0-is, floor-is)
 
-parts : Parts-law
+parts : PartsLaw
 parts n z one = omega (arith, ints, floor-is)
 parts n z two = omega (arith, ints, floor-is)
 parts n z three = omega (arith, ints, floor-is)
@@ -51,7 +51,7 @@ parts n z four = omega (arith, ints, floor-is)
 parts n z six = omega (arith, ints, floor-is)
 parts n z twelve = omega (arith, ints, floor-is)
 
-floor : Floor-law
+floor : FloorLaw
 floor z d =
     let f = floor-is z (suc d) (omega arith) in
     let more = ap (λ n. suc d * n) (sum-is (floorZ z (suc d)) (pos 1)) in
@@ -72,7 +72,7 @@ greatest-least : (x : ℤ) (xs : List ℤ) (r : ℤ) → All (λ y. y ≤ℤ r) 
 greatest-least x [] r h = h .0
 greatest-least x (y ∷ ys) r h = let a = h .0 in let b = h .1 .0 in greatest-least (maxZ x y) ys r (omega (arith, ints, clamps), h .1 .1)
 
-pub proved : Money-laws
+pub proved : MoneyLaws
 proved = record { bid = bid; offer = offer; conversion = conversion; parts = parts; floor = floor; greatest = λ x xs r. (greatest-bounds x xs r, greatest-least x xs r) }
 
 pub max0-max : (x : ℤ) → maxZ x (pos 0) ≡ max0 x

@@ -9,10 +9,10 @@ use lib.IntN.{ℤ, pos, _+ℤ_, _-ℤ_, _*ℤ_}
 use Rattle.std.proofs.shelf.Signed.{ints}
 use Rattle.std.proofs.shelf.Tests.{or-cases, and-parts, eqb-true, leb-true, le-leb, cond-true}
 use Rattle.std.proofs.shelf.Ways.{tells}
-use Rattle.gate_model.specs.Money.{Parts, one, two, three, four, six, twelve, Money-laws, floorZ}
+use Rattle.gate_model.specs.Money.{Parts, one, two, three, four, six, twelve, MoneyLaws, floorZ}
 use Rattle.gate_model.proofs.Money.{proved}
 use Rattle.gate_model.specs.State.{Account}
-use Rattle.gate_model.specs.Requirement.{over, unsettled, monthly, left, value-left}
+use Rattle.gate_model.specs.Requirement.{over, unsettled, monthly, left, valueLeft}
 use Rattle.gate_model.specs.Effects.{bears, spread, costed}
 use Rattle.hours.specs.declared.period.Period.{Period}
 use Rattle.gate_model.specs.declared.right.Right.{Right}
@@ -29,7 +29,7 @@ over-spread p z costs o zero = omega (arith, ints)
 over-spread p z costs o (suc k) =
     let r = over-spread p z costs (suc o) k in
     elim (bears p o) as (λ b. ((costs o +ℤ cond b z (pos 0)) +ℤ over (spread p z costs) (suc o) k) ≡ ((costs o +ℤ over costs (suc o) k) +ℤ (pos (cond b 1 0 + borne (p .first) (p .first + p .months) (suc o) k) *ℤ z)))
-      [ true ↦ omega (arith, ints) | false ↦ omega (arith, ints) ]
+    [ true ↦ omega (arith, ints) | false ↦ omega (arith, ints) ]
 
 borne-is : (a b o k : ℕ) → borne a b o k ≡ min b (o + k) - max a o
 unfolding borne
@@ -46,7 +46,7 @@ parts-of n h = ⊎-elim (λ e. subst Parts (sym (eqb-true n 1 e)) one) (λ h2.
     ⊎-elim (λ e. subst Parts (sym (eqb-true n 3 e)) three) (λ h4.
     ⊎-elim (λ e. subst Parts (sym (eqb-true n 4 e)) four) (λ h6.
     ⊎-elim (λ e. subst Parts (sym (eqb-true n 6 e)) six) (λ e. subst Parts (sym (eqb-true n 12 e)) twelve)
-      (or-cases (eqb n 6) _ h6)) (or-cases (eqb n 4) _ h4)) (or-cases (eqb n 3) _ h3)) (or-cases (eqb n 2) _ h2)) (or-cases (eqb n 1) _ h)
+    (or-cases (eqb n 6) _ h6)) (or-cases (eqb n 4) _ h4)) (or-cases (eqb n 3) _ h3)) (or-cases (eqb n 2) _ h2)) (or-cases (eqb n 1) _ h)
 
 -- a lawful period of which no month is over
 pub record Ahead (o : ℕ) (p : Period) : Type 0 where
@@ -69,7 +69,7 @@ unsettled-costed o p z a h =
     let w = whole o p z h in
     s ∙ ap (λ k. over (a .costs) o (13 - o) +ℤ (pos k *ℤ monthly p z)) n ∙ ap (λ k. over (a .costs) o (13 - o) +ℤ k) w
 
-pub value-ahead : (o : ℕ) (r : Right) → Ahead o (r .key .slot .period) → value-left o r ≡ pos 12 *ℤ (pos (r .megawatts) *ℤ r .price)
+pub value-ahead : (o : ℕ) (r : Right) → Ahead o (r .key .slot .period) → valueLeft o r ≡ pos 12 *ℤ (pos (r .megawatts) *ℤ r .price)
 value-ahead o r h =
     ap (λ n. pos n *ℤ monthly (r .key .slot .period) (pos (r .megawatts) *ℤ r .price)) (cond-true (leb o (r .key .slot .period .first)) (r .key .slot .period .months) _ (le-leb _ _ (h .begins)))
     ∙ whole o (r .key .slot .period) (pos (r .megawatts) *ℤ r .price) h

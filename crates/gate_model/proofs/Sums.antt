@@ -9,7 +9,7 @@ use lib.IntN.{ℤ, pos, _+ℤ_, +ℤ-idr}
 use lib.Signed.{_≤ℤ_}
 use Rattle.std.proofs.shelf.Signed.{ints}
 use Rattle.std.specs.shelf.Lists.{kept-by}
-use Rattle.gate_model.specs.Sums.{sumZ, Sum-laws}
+use Rattle.gate_model.specs.Sums.{sumZ, SumLaws}
 
 pub sumZ-append : {X : Type 0} (f : X → ℤ) (xs ys : List X) → sumZ f (xs ++ ys) ≡ sumZ f xs +ℤ sumZ f ys
 sumZ-append f [] ys = omega (arith, ints)
@@ -24,9 +24,9 @@ pub sumZ-kept : {X : Type 0} (f : X → ℤ) (p : X → Bool) (xs : List X) → 
 sumZ-kept f p [] = refl
 sumZ-kept f p (x ∷ xs) = let r = sumZ-kept f p xs in
     elim (p x) as (λ b. (sumZ f (cond b (x ∷ kept-by p xs) (kept-by p xs)) +ℤ sumZ f (cond (not b) (x ∷ kept-by (λ y. not (p y)) xs) (kept-by (λ y. not (p y)) xs))) ≡ (f x +ℤ sumZ f xs))
-      [ true ↦ omega (arith, ints) | false ↦ omega (arith, ints) ]
+    [ true ↦ omega (arith, ints) | false ↦ omega (arith, ints) ]
 
-pub proved : (X : Type 0) → Sum-laws X
+pub proved : (X : Type 0) → SumLaws X
 proved X = record { append = sumZ-append; set = sumZ-set; kept = sumZ-kept }
 
 pub sumZ-more : {X : Type 0} (f : X → ℤ) (xs : List X) (i : ℕ) (d : X) → i < length xs → sumZ f (take (i + 1) xs) ≡ sumZ f (take i xs) +ℤ f (getD xs i d)

@@ -17,30 +17,30 @@ pub data Call : Type 0 where
   payment : (customer : ℕ) → Call
   opening : Period → Call
   submission : Shown → (customer : ℕ) → List Line → Call
-  conversion-of : Shown → (customer : ℕ) → List Request → Call
+  conversionOf : Shown → (customer : ℕ) → List Request → Call
   closing : Shown → Call
   award : Shown → (item : ℕ) → (w : ℕ) → (price : ℤ) → Call
   ending : Shown → Call
   transfer : (seller : ℕ) → (buyer : ℕ) → (right : ℕ) → (q : ℕ) → Call
-  month-turn : Call
-  new-book : Prices → Call
+  monthTurn : Call
+  newBook : Prices → Call
 
 -- no fault, or the fault of a price
 pub data Cause : Type 0 where
   plain : Cause
-  no-price : Fault → Cause
+  noPrice : Fault → Cause
 
 pub data Outcome : Type 0 where
-  security-is : ℕ → Outcome
-  calculated-is : ℤ → Outcome
-  invoiced-is : ℤ → Outcome
+  securityIs : ℕ → Outcome
+  calculatedIs : ℤ → Outcome
+  invoicedIs : ℤ → Outcome
   opened : (auction : ℕ) → Outcome
-  stand-from-to : ℕ → ℕ → Outcome
+  standFromTo : ℕ → ℕ → Outcome
   closed : (auction : ℕ) → Outcome
-  rights-from-to : ℕ → ℕ → Outcome
-  sold-megawatts : ℕ → Outcome
+  rightsFromTo : ℕ → ℕ → Outcome
+  soldMegawatts : ℕ → Outcome
   nothing : Outcome
-  ended-auction : ℕ → Outcome
-  month-is : ℕ → Outcome
+  endedAuction : ℕ → Outcome
+  monthIs : ℕ → Outcome
   booked : Outcome
   refused : (ground : ℕ) → (line : ℕ) → Cause → Outcome

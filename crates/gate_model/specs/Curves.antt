@@ -9,30 +9,30 @@ use lib.Signed.{leZ}
 use Rattle.std.specs.Numbers.{maxZ}
 use Rattle.gate_model.specs.Money.{max0, floorZ}
 use Rattle.gate_model.specs.Sums.{sumZ}
-use Rattle.gate_model.specs.Measures.{lawful-megawatts, lawful-price}
+use Rattle.gate_model.specs.Measures.{lawfulMegawatts, lawfulPrice}
 use Rattle.books.specs.declared.key.Key.{Key}
 use Rattle.gate_model.specs.declared.point.Point.{Point}
 use Rattle.gate_model.specs.declared.conversion.Part.{Part}
 
-abbrev pub lawful-point : Point → Bool
-lawful-point p = lawful-megawatts (p .megawatts) && lawful-price (p .price)
+abbrev pub lawfulPoint : Point → Bool
+lawfulPoint p = lawfulMegawatts (p .megawatts) && lawfulPrice (p .price)
 
 -- each point has more megawatts than the one before, and its price follows as it must
 abbrev pub ordered : (ℤ → ℤ → Bool) → Point → List Point → Bool
-ordered follows p [] = lawful-point p
-ordered follows p (q ∷ ps) = lawful-point p && ((ltb (p .megawatts) (q .megawatts) && follows (p .price) (q .price)) && ordered follows q ps)
+ordered follows p [] = lawfulPoint p
+ordered follows p (q ∷ ps) = lawfulPoint p && ((ltb (p .megawatts) (q .megawatts) && follows (p .price) (q .price)) && ordered follows q ps)
 
 -- 1 to 4 points in order
-abbrev pub lawful-curve : (ℤ → ℤ → Bool) → List Point → Bool
-lawful-curve follows [] = false
-lawful-curve follows (p ∷ ps) = leb (length ps) 3 && ordered follows p ps
+abbrev pub lawfulCurve : (ℤ → ℤ → Bool) → List Point → Bool
+lawfulCurve follows [] = false
+lawfulCurve follows (p ∷ ps) = leb (length ps) 3 && ordered follows p ps
 
 -- prices of a bid never rise, those of an offer never fall
-abbrev pub lawful-bid : List Point → Bool
-lawful-bid points = lawful-curve (λ before after. leZ after before) points
+abbrev pub lawfulBid : List Point → Bool
+lawfulBid points = lawfulCurve (λ before after. leZ after before) points
 
-abbrev pub lawful-offer : List Point → Bool
-lawful-offer points = lawful-curve (λ before after. leZ before after) points
+abbrev pub lawfulOffer : List Point → Bool
+lawfulOffer points = lawfulCurve (λ before after. leZ before after) points
 
 -- the megawatts of the last point, which are the most (below, where there is none)
 abbrev pub top : ℕ → List Point → ℕ
@@ -40,9 +40,9 @@ top below [] = below
 top below (p ∷ ps) = top (p .megawatts) ps
 
 -- w lies in a block, from above the point before up to its own point, whose price accepts
-abbrev pub in-block : (ℤ → Bool) → ℕ → ℕ → List Point → Bool
-in-block accepts w below [] = false
-in-block accepts w below (p ∷ ps) = (ltb below w && (leb w (p .megawatts) && accepts (p .price))) || in-block accepts w (p .megawatts) ps
+abbrev pub inBlock : (ℤ → Bool) → ℕ → ℕ → List Point → Bool
+inBlock accepts w below [] = false
+inBlock accepts w below (p ∷ ps) = (ltb below w && (leb w (p .megawatts) && accepts (p .price))) || inBlock accepts w (p .megawatts) ps
 
 -- the greatest over the points, at least zero
 abbrev pub most : (Point → ℤ) → List Point → ℤ
@@ -50,25 +50,25 @@ most f [] = pos 0
 most f (p ∷ ps) = maxZ (f p) (most f ps)
 
 -- a bid at the book price r
-abbrev pub bid-at : ℤ → Point → ℤ
-bid-at r p = pos (12 * p .megawatts) *ℤ (max0 (p .price) -ℤ r)
+abbrev pub bidAt : ℤ → Point → ℤ
+bidAt r p = pos (12 * p .megawatts) *ℤ (max0 (p .price) -ℤ r)
 
-abbrev pub bid-requirement : ℤ → List Point → ℤ
-bid-requirement r points = most (bid-at r) points
+abbrev pub bidRequirement : ℤ → List Point → ℤ
+bidRequirement r points = most (bidAt r) points
 
 -- an offer at the book price r on a right with the original price a
-abbrev pub offer-at : ℤ → ℤ → Point → ℤ
-offer-at r a p = pos (12 * p .megawatts) *ℤ (max0 r +ℤ max0 (a -ℤ p .price))
+abbrev pub offerAt : ℤ → ℤ → Point → ℤ
+offerAt r a p = pos (12 * p .megawatts) *ℤ (max0 r +ℤ max0 (a -ℤ p .price))
 
-abbrev pub offer-requirement : ℤ → ℤ → List Point → ℤ
-offer-requirement r a points = most (offer-at r a) points
+abbrev pub offerRequirement : ℤ → ℤ → List Point → ℤ
+offerRequirement r a points = most (offerAt r a) points
 
 -- the most that an award of a bid or an offer may add to the unsettled cost
-abbrev pub greatest-cost : List Point → ℤ
-greatest-cost points = most (λ p. pos (12 * p .megawatts) *ℤ max0 (p .price)) points
+abbrev pub greatestCost : List Point → ℤ
+greatestCost points = most (λ p. pos (12 * p .megawatts) *ℤ max0 (p .price)) points
 
-abbrev pub greatest-loss : ℤ → List Point → ℤ
-greatest-loss a points = most (λ p. pos (12 * p .megawatts) *ℤ max0 (a -ℤ p .price)) points
+abbrev pub greatestLoss : ℤ → List Point → ℤ
+greatestLoss a points = most (λ p. pos (12 * p .megawatts) *ℤ max0 (a -ℤ p .price)) points
 
 -- megawatts at a price for the whole period, in twelfths
 abbrev pub worth : ℕ → ℤ → ℤ
@@ -85,5 +85,5 @@ abbrev pub loss : Part → ℤ
 loss l = min0 (worth (l .megawatts) (l .price))
 
 -- minus (nine tenths of the positive values, rounded down, plus the negative ones), at least zero
-abbrev pub conversion-requirement : List Part → ℤ
-conversion-requirement parts = max0 (negℤ (floorZ (pos 9 *ℤ sumZ gain parts) 10 +ℤ sumZ loss parts))
+abbrev pub conversionRequirement : List Part → ℤ
+conversionRequirement parts = max0 (negℤ (floorZ (pos 9 *ℤ sumZ gain parts) 10 +ℤ sumZ loss parts))

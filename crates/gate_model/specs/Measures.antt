@@ -18,14 +18,14 @@ abbrev pub unfinished : ℕ → Period → Bool
 unfinished o p = ltb o (p .first + p .months)
 
 -- tenths of a megawatt
-abbrev pub lawful-megawatts : ℕ → Bool
-lawful-megawatts q = leb 1 q && leb q 20_000
+abbrev pub lawfulMegawatts : ℕ → Bool
+lawfulMegawatts q = leb 1 q && leb q 20_000
 
-abbrev pub lawful-price : ℤ → Bool
-lawful-price x = within 8_000_000_000 x
+abbrev pub lawfulPrice : ℤ → Bool
+lawfulPrice x = within 8_000_000_000 x
 
 abbrev pub customer : ℕ → Bool
 customer c = leb 1 c && leb c 16
 
-abbrev pub same-period : Period → Period → Bool
-same-period p q = eqb (p .first) (q .first) && eqb (p .months) (q .months)
+abbrev pub samePeriod : Period → Period → Bool
+samePeriod p q = eqb (p .first) (q .first) && eqb (p .months) (q .months)

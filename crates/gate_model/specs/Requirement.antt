@@ -8,7 +8,7 @@ use lib.Signed.{_≤ℤ_, ltZ}
 use Rattle.gate_model.specs.Money.{max0, floorZ}
 use Rattle.gate_model.specs.Sums.{sumZ}
 use Rattle.gate_model.specs.Curves.{worth, top}
-use Rattle.gate_model.specs.State.{Account, Item, Body, bid, offer, conversion, State, right-at}
+use Rattle.gate_model.specs.State.{Account, Item, Body, bid, offer, conversion, State, rightAt}
 use Rattle.hours.specs.declared.period.Period.{Period}
 use Rattle.books.specs.declared.key.Key.{Key}
 use Rattle.gate_model.specs.declared.right.Right.{Right}
@@ -35,11 +35,11 @@ abbrev pub left : ℕ → Period → ℕ
 left o p = cond (leb o (p .first)) (p .months) (p .first + p .months - o)
 
 -- the month values of a right over the months o to 12
-abbrev pub value-left : ℕ → Right → ℤ
-value-left o r = pos (left o (r .key .slot .period)) *ℤ monthly (r .key .slot .period) (pos (r .megawatts) *ℤ r .price)
+abbrev pub valueLeft : ℕ → Right → ℤ
+valueLeft o r = pos (left o (r .key .slot .period)) *ℤ monthly (r .key .slot .period) (pos (r .megawatts) *ℤ r .price)
 
 abbrev pub values : ℕ → ℕ → List Right → ℤ
-values o c rights = sumZ (λ r. mine (r .owner) c (value-left o r)) rights
+values o c rights = sumZ (λ r. mine (r .owner) c (valueLeft o r)) rights
 
 -- R
 abbrev pub holding : State → ℕ → ℤ
@@ -65,10 +65,10 @@ abbrev pub above : State → ℕ → Bool
 above s c = ltZ (pos (120 * s .accounts c .security)) (total s c)
 
 -- the megawatts of the right k that an item commits: the top point of an offer on it
-abbrev pub commits-body : ℕ → Body → ℤ
-commits-body k (bid key points price) = pos 0
-commits-body k (offer right points) = cond (eqb right k) (pos (top 0 points)) (pos 0)
-commits-body k (conversion parts) = pos 0
+abbrev pub commitsBody : ℕ → Body → ℤ
+commitsBody k (bid key points price) = pos 0
+commitsBody k (offer right points) = cond (eqb right k) (pos (top 0 points)) (pos 0)
+commitsBody k (conversion parts) = pos 0
 
 abbrev pub committed : ℕ → List Item → ℤ
-committed k items = sumZ (λ i. commits-body k (i .body)) items
+committed k items = sumZ (λ i. commitsBody k (i .body)) items

@@ -45,9 +45,9 @@ pub record State : Type 0 where
   pub items : List Item
 
 -- the first of a list that passes a test, or d where none does
-abbrev pub the-first : {X : Type 0} → (X → Bool) → X → List X → X
-the-first p d [] = d
-the-first p d (x ∷ xs) = cond (p x) x (the-first p d xs)
+abbrev pub theFirst : {X : Type 0} → (X → Bool) → X → List X → X
+theFirst p d [] = d
+theFirst p d (x ∷ xs) = cond (p x) x (theFirst p d xs)
 
 abbrev pub any : {X : Type 0} → (X → Bool) → List X → Bool
 any p [] = false
@@ -58,30 +58,30 @@ abbrev pub replaced : {X : Type 0} → (X → Bool) → (X → List X) → List 
 replaced p g [] = []
 replaced p g (x ∷ xs) = cond (p x) (g x ++ xs) (x ∷ replaced p g xs)
 
-abbrev pub no-period : Period
-no-period = record { first = 0; months = 0 }
+abbrev pub noPeriod : Period
+noPeriod = record { first = 0; months = 0 }
 
-abbrev pub no-right : Right
-no-right = record { number = 0; owner = 0; key = record { path = record { source = 0; sink = 0 }; slot = record { period = no-period; class = 0 } }; megawatts = 0; price = pos 0; original = pos 0 }
+abbrev pub noRight : Right
+noRight = record { number = 0; owner = 0; key = record { path = record { source = 0; sink = 0 }; slot = record { period = noPeriod; class = 0 } }; megawatts = 0; price = pos 0; original = pos 0 }
 
-abbrev pub no-item : Item
-no-item = record { number = 0; owner = 0; requirement = pos 0; greatest = pos 0; body = conversion [] }
+abbrev pub noItem : Item
+noItem = record { number = 0; owner = 0; requirement = pos 0; greatest = pos 0; body = conversion [] }
 
-abbrev pub right-numbered : ℕ → Right → Bool
-right-numbered k r = eqb (r .number) k
+abbrev pub rightNumbered : ℕ → Right → Bool
+rightNumbered k r = eqb (r .number) k
 
-abbrev pub right-at : ℕ → List Right → Right
-right-at k rights = the-first (right-numbered k) no-right rights
+abbrev pub rightAt : ℕ → List Right → Right
+rightAt k rights = theFirst (rightNumbered k) noRight rights
 
-abbrev pub item-numbered : ℕ → Item → Bool
-item-numbered k i = eqb (i .number) k
+abbrev pub itemNumbered : ℕ → Item → Bool
+itemNumbered k i = eqb (i .number) k
 
-abbrev pub item-at : ℕ → List Item → Item
-item-at k items = the-first (item-numbered k) no-item items
+abbrev pub itemAt : ℕ → List Item → Item
+itemAt k items = theFirst (itemNumbered k) noItem items
 
-abbrev pub empty-account : Account
-empty-account = record { security = 0; costs = λ _. pos 0; invoiced = pos 0; calculated = pos 0; standing = pos 0 }
+abbrev pub emptyAccount : Account
+emptyAccount = record { security = 0; costs = λ _. pos 0; invoiced = pos 0; calculated = pos 0; standing = pos 0 }
 
 -- Idle and empty, all sums zero
 abbrev pub new : Prices → State
-new p = record { prices = p; month = 1; phase = Idle; auctions = 0; given = 0; accounts = λ _. empty-account; rights = []; items = [] }
+new p = record { prices = p; month = 1; phase = Idle; auctions = 0; given = 0; accounts = λ _. emptyAccount; rights = []; items = [] }

@@ -3,10 +3,10 @@
 //!
 //! The types are those that the gate keeps its tables in.
 mod conversion;
-mod theorem;
 mod phase;
 mod point;
 mod right;
+mod theorem;
 
 pub use conversion::Part;
 pub use conversion::PartDebug;
@@ -16,7 +16,6 @@ pub use conversion::Request;
 pub use conversion::RequestDebug;
 pub use conversion::RequestEq;
 pub use conversion::RequestPartialEq;
-pub use theorem::law_stands;
 pub use phase::Phase;
 pub use phase::PhaseDebug;
 pub use phase::PhaseEq;
@@ -33,3 +32,4 @@ pub use right::Right;
 pub use right::RightDebug;
 pub use right::RightEq;
 pub use right::RightPartialEq;
+pub use theorem::law_stands;
