@@ -20,7 +20,7 @@ use Rattle.gate_model.specs.Measures.{Prices}
 use Rattle.gate_model.specs.State.{Account, Body, bid, offer, conversion, Item, State, rightAt, itemAt, new}
 use Rattle.gate_model.specs.Requirement.{mine, over, unsettled, monthly}
 use Rattle.gate_model.specs.Effects.{Line, bidLine, offerLine, changed, withAccount, secured, charged, costed, drawn, settled, cleared, awarded, saleCost, standsToo, itemOf, stand, submitted, partOf, conversionItem, turned, monthCharged}
-use Rattle.gate_model.specs.Calls.{Call, posting, returning, charge, invoice, payment, opening, submission, conversionOf, closing, award, ending, transfer, monthTurn, newBook, Outcome}
+use Rattle.gate_model.specs.Calls.{Call, posting, returning, charge, invoice, payment, opening, submission, conversionOf, closing, award, ending, transfer, monthTurn, newBook}
 use Rattle.gate_model.specs.Grounds.{grounds, stands, lawfulAward, lawfulOn, costly, afterCents, cents}
 use Rattle.gate_model.specs.Run.{effect, step}
 use Rattle.gate_model.proofs.Months.{Ahead, unsettled-costed}

@@ -17,9 +17,9 @@ use Rattle.gate_model.proofs.Sums.{sumZ-append}
 use Rattle.gate_model.specs.Measures.{Prices, unfinished, samePeriod}
 use Rattle.gate_model.specs.State.{Account, Body, bid, offer, conversion, Item, State, rightAt, itemAt}
 use Rattle.gate_model.specs.Effects.{Line, less, lessened, rightFor, rightsOf, settled, cleared, awarded, stand, submitted, transferred, turned, repriced, rebooked}
-use Rattle.gate_model.specs.Calls.{Call, posting, returning, charge, invoice, payment, opening, submission, conversionOf, closing, award, ending, transfer, monthTurn, newBook, Outcome}
+use Rattle.gate_model.specs.Calls.{Call, posting, returning, charge, invoice, payment, opening, submission, conversionOf, closing, award, ending, transfer, monthTurn, newBook}
 use Rattle.gate_model.specs.Requirement.{committed}
-use Rattle.gate_model.specs.Grounds.{Met, grounds, approved, stands, lawfulAward, lawfulOn}
+use Rattle.gate_model.specs.Grounds.{grounds, approved, stands, lawfulAward, lawfulOn}
 use Rattle.gate_model.specs.Run.{effect, step, next}
 use Rattle.gate_model.specs.Conservation.{ofKey, held, buys, converts, sells, clears, along}
 use Rattle.gate_model.proofs.Rights.{lessened-sum}
@@ -35,6 +35,7 @@ use Rattle.gate_model.specs.declared.conversion.Request.{Request}
 use Rattle.gate_model.specs.declared.right.Right.{Right}
 use Rattle.gate_model.specs.declared.phase.Shown.{Shown}
 use Rattle.books.specs.Keys.{sameKey}
+use Rattle.gate_model.specs.declared.outcome.Outcome.{Outcome}
 
 none-of-key : (k key : Key) → ofKey k key 0 ≡ pos 0
 none-of-key k key = cond-both (sameKey key k) (pos 0) (pos 0) (λ z. z ≡ pos 0) (λ _. refl) (λ _. refl)

@@ -21,7 +21,7 @@ use Rattle.gate_model.specs.Measures.{Prices, unfinished}
 use Rattle.gate_model.specs.State.{Account, Body, bid, offer, conversion, Item, State, rightAt, rightNumbered, noRight, itemAt, new}
 use Rattle.gate_model.specs.Requirement.{mine, monthly, committed}
 use Rattle.gate_model.specs.Effects.{Line, bears, spread, costed, changed, withAccount, secured, charged, drawn, partOf, conversionItem, less, rest, lessened, rightFor, rightsOf, settled, bought, sold, saleCost, converted, cleared, awarded, standsToo, itemOf, stand, submitted, converting, transferred, turned, repriced, rebooked, ended}
-use Rattle.gate_model.specs.Calls.{Call, posting, returning, charge, invoice, payment, opening, submission, conversionOf, closing, award, ending, transfer, monthTurn, newBook, Outcome}
+use Rattle.gate_model.specs.Calls.{Call, posting, returning, charge, invoice, payment, opening, submission, conversionOf, closing, award, ending, transfer, monthTurn, newBook}
 use Rattle.gate_model.specs.Grounds.{grounds, stands, lawfulAward, lawfulOn, isIdle, afterCents, cents}
 use Rattle.gate_model.specs.Run.{effect, step}
 use Rattle.gate_model.proofs.Firsts.{all-first, all-replaced}

@@ -12,7 +12,7 @@ use Rattle.std.proofs.shelf.Elements.{all-weaker}
 use Rattle.gate_model.specs.Measures.{Prices, lawfulMegawatts}
 use Rattle.gate_model.specs.State.{Body, bid, offer, conversion, Item, State, new, itemAt}
 use Rattle.gate_model.specs.Requirement.{Within}
-use Rattle.gate_model.specs.Calls.{Call, Outcome}
+use Rattle.gate_model.specs.Calls.{Call}
 use Rattle.gate_model.specs.Run.{step, next, run, reached}
 use Rattle.gate_model.specs.Clearing.{LawfulAward, Clears, clearedOut, oneAward}
 use Rattle.gate_model.specs.Law.{BodyPriced, PartPriced, PricesAgree, requirementOf, SumsAgree, Sane, Roomy, Numbered, WithinLimits, Law, mayRaise}

@@ -19,15 +19,15 @@ use Rattle.std.proofs.shelf.Elements.{all-append, all-weaker, all-kept-by, all-
 use Rattle.gate_model.specs.Measures.{Prices, lawfulMegawatts, unfinished}
 use Rattle.gate_model.specs.State.{Account, Body, bid, offer, conversion, Item, State, theFirst, any, replaced, rightAt, rightNumbered, itemAt, itemNumbered, noItem, new}
 use Rattle.gate_model.specs.Effects.{Line, changed, withAccount, secured, charged, costed, drawn, less, rest, lessened, rightsOf, rightFor, settled, cleared, awarded, standsToo, itemOf, stand, submitted, partOf, conversionItem, converting, transferred, turned, monthCharged, repriced, unstood}
-use Rattle.gate_model.specs.Calls.{Call, posting, returning, charge, invoice, payment, opening, submission, conversionOf, closing, award, ending, transfer, monthTurn, newBook, Outcome, plain}
-use Rattle.gate_model.specs.Grounds.{lawfulOn, Met, unmet, metAt, atLine, grounds, stands, crowded, linesOf, newOf, standingLines, standingNew, lawfulCount, customers, outside, afterCents, cents}
+use Rattle.gate_model.specs.Calls.{Call, posting, returning, charge, invoice, payment, opening, submission, conversionOf, closing, award, ending, transfer, monthTurn, newBook}
+use Rattle.gate_model.specs.Grounds.{lawfulOn, atLine, grounds, stands, crowded, linesOf, newOf, standingLines, standingNew, lawfulCount, customers, outside, afterCents, cents}
 use Rattle.gate_model.specs.Run.{effect, step}
 use Rattle.gate_model.specs.Law.{Sane, Roomy, Rising, Numbered}
 use Rattle.gate_model.proofs.Firsts.{all-both, all-replaced}
 use Rattle.gate_model.proofs.Blocks.{bid-block}
 use Rattle.gate_model.proofs.Sound.{Part-backed, Body-backed, Sound}
 use Rattle.gate_model.proofs.Award.{item-backed, lawful-some}
-use Rattle.gate_model.proofs.Tables.{Unmet, Passes, decided-keeps, call-passed, not-passed, lines-passed, standing-passed, met≢unmet}
+use Rattle.gate_model.proofs.Tables.{Unmet, Passes, decided-keeps, call-passed, not-passed, lines-passed, standing-passed, met≢NotMet}
 use Rattle.hours.specs.declared.period.Period.{Period}
 use Rattle.books.specs.declared.key.Key.{Key}
 use Rattle.gate_model.specs.declared.point.Point.{Point}
@@ -36,6 +36,8 @@ use Rattle.gate_model.specs.declared.conversion.Request.{Request}
 use Rattle.gate_model.specs.declared.right.Right.{Right}
 use Rattle.gate_model.specs.declared.phase.Shown.{Shown}
 use Rattle.hours.specs.Bounds.{within}
+use Rattle.gate_model.specs.declared.refusal.Met.the-variants.{NotMet, MetAt}
+use Rattle.std.specs.declared.option.Option.the-variants.{None}
 
 -- room
 not-crowded : (s : State) → crowded s ≡ false → Roomy s
@@ -95,16 +97,16 @@ submitted-roomy c p [] s t h = h
 submitted-roomy c p (l ∷ ls) s t h = submitted-roomy c p ls (stand c p s l) (t .1) (not-crowded (stand c p s l) (t .0))
 
 -- the test of the last line
-last-passed : {X : Type 0} (f : ℕ → Bool) (i : ℕ) (l : X) (ls : List X) → atLine (λ n _. f n) i (l ∷ ls) ≡ unmet → f (i + length ls) ≡ false
+last-passed : {X : Type 0} (f : ℕ → Bool) (i : ℕ) (l : X) (ls : List X) → atLine (λ n _. f n) i (l ∷ ls) ≡ NotMet → f (i + length ls) ≡ false
 last-passed f i l [] e =
     let n : i + 0 ≡ i = omega arith in
-    ap f n ∙ (elim (f i) as (λ b. cond b (metAt i plain) unmet ≡ unmet → b ≡ false) [ true ↦ λ k. absurd (met≢unmet i plain k) | false ↦ λ _. refl ]) e
+    ap f n ∙ (elim (f i) as (λ b. cond b (MetAt i None) NotMet ≡ NotMet → b ≡ false) [ true ↦ λ k. absurd (met≢NotMet i None k) | false ↦ λ _. refl ]) e
 last-passed f i l (k ∷ ls) e =
     let r = last-passed f (suc i) k ls in
     let n : i + suc (length ls) ≡ suc i + length ls = omega arith in
-    ap f n ∙ (elim (f i) as (λ b. cond b (metAt i plain) (atLine (λ n _. f n) (suc i) (k ∷ ls)) ≡ unmet → f (suc i + length ls) ≡ false) [ true ↦ λ q. absurd (met≢unmet i plain q) | false ↦ r ]) e
+    ap f n ∙ (elim (f i) as (λ b. cond b (MetAt i None) (atLine (λ n _. f n) (suc i) (k ∷ ls)) ≡ NotMet → f (suc i + length ls) ≡ false) [ true ↦ λ q. absurd (met≢NotMet i None q) | false ↦ r ]) e
 
-converting-roomy : (s : State) (c : ℕ) (p : Period) (lines : List Request) → lawfulCount (length lines) ≡ true → atLine (λ i _. crowded (converting s c p (take i lines))) 1 lines ≡ unmet → Roomy (converting s c p lines)
+converting-roomy : (s : State) (c : ℕ) (p : Period) (lines : List Request) → lawfulCount (length lines) ≡ true → atLine (λ i _. crowded (converting s c p (take i lines))) 1 lines ≡ NotMet → Roomy (converting s c p lines)
 converting-roomy s c p [] n e = absurd (false≢true n)
 converting-roomy s c p (l ∷ ls) n e =
     let t = last-passed (λ i. crowded (converting s c p (take i (l ∷ ls)))) 1 l ls e in

@@ -24,8 +24,8 @@ use Rattle.gate_model.specs.Measures.{Prices, lawfulMegawatts, unfinished, cus
 use Rattle.gate_model.specs.State.{Account, Body, bid, offer, conversion, Item, State, rightAt, rightNumbered, noRight, itemAt, any, new}
 use Rattle.gate_model.specs.Requirement.{mine, unsettled, charges, values, valueLeft, required, above, Within, commitsBody, committed}
 use Rattle.gate_model.specs.Effects.{Line, changed, withAccount, withPhase, secured, charged, priceOrZero, less, lessened, rightFor, stand, submitted, partOf, conversionItem, converting, awarded, transferred, monthCharged, turned, repriced, rebooked, unstood, ended}
-use Rattle.gate_model.specs.Calls.{Call, posting, returning, charge, invoice, payment, opening, submission, conversionOf, closing, award, ending, transfer, monthTurn, newBook, Outcome}
-use Rattle.gate_model.specs.Grounds.{Met, unmet, grounds, approved, showsOpen, showsClosed, isIdle, hasRight, uncommitted, stands, lawfulAward, afterCents, outside, cents}
+use Rattle.gate_model.specs.Calls.{Call, posting, returning, charge, invoice, payment, opening, submission, conversionOf, closing, award, ending, transfer, monthTurn, newBook}
+use Rattle.gate_model.specs.Grounds.{grounds, approved, showsOpen, showsClosed, isIdle, hasRight, uncommitted, stands, lawfulAward, afterCents, outside, cents}
 use Rattle.gate_model.specs.Run.{effect, step}
 use Rattle.gate_model.specs.Law.{RightPriced, mayRaise}
 use Rattle.gate_model.proofs.Firsts.{all-first, sum-above}

@@ -1,4 +1,4 @@
--- The gate's calls, and what they answer.
+-- The gate's calls.
 use mathlib.Core.List.{List}
 use Prim.Native.Nat.{ℕ}
 use lib.IntN.{ℤ}
@@ -24,23 +24,3 @@ pub data Call : Type 0 where
   transfer : (seller : ℕ) → (buyer : ℕ) → (right : ℕ) → (q : ℕ) → Call
   monthTurn : Call
   newBook : Prices → Call
-
--- no fault, or the fault of a price
-pub data Cause : Type 0 where
-  plain : Cause
-  noPrice : Fault → Cause
-
-pub data Outcome : Type 0 where
-  securityIs : ℕ → Outcome
-  calculatedIs : ℤ → Outcome
-  invoicedIs : ℤ → Outcome
-  opened : (auction : ℕ) → Outcome
-  standFromTo : ℕ → ℕ → Outcome
-  closed : (auction : ℕ) → Outcome
-  rightsFromTo : ℕ → ℕ → Outcome
-  soldMegawatts : ℕ → Outcome
-  nothing : Outcome
-  endedAuction : ℕ → Outcome
-  monthIs : ℕ → Outcome
-  booked : Outcome
-  refused : (ground : ℕ) → (line : ℕ) → Cause → Outcome

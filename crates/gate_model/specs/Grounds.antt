@@ -15,7 +15,7 @@ use Rattle.gate_model.specs.Curves.{lawfulBid, lawfulOffer, top, inBlock}
 use Rattle.gate_model.specs.State.{Account, Body, bid, offer, conversion, Item, State, any, rightAt, rightNumbered, itemAt, itemNumbered}
 use Rattle.gate_model.specs.Requirement.{mine, unsettled, above, committed}
 use Rattle.gate_model.specs.Effects.{Line, bidLine, offerLine, lineKey, stand, submitted, converting, transferred, secured, withAccount}
-use Rattle.gate_model.specs.Calls.{Call, posting, returning, charge, invoice, payment, opening, submission, conversionOf, closing, award, ending, transfer, monthTurn, newBook, Cause, plain, noPrice}
+use Rattle.gate_model.specs.Calls.{Call, posting, returning, charge, invoice, payment, opening, submission, conversionOf, closing, award, ending, transfer, monthTurn, newBook}
 use Rattle.hours.specs.declared.period.Period.{Period}
 use Rattle.hours.specs.declared.fault.Fault.{Fault}
 use Rattle.books.specs.declared.key.Key.{Key}
@@ -29,33 +29,33 @@ use Rattle.gate_model.specs.declared.phase.Phase.the-variants.{Idle, Open, Clo
 use Rattle.books.specs.Keys.{lawfulPath}
 use Rattle.hours.specs.Periods.{lawfulClass, lawfulPeriod}
 use Rattle.hours.specs.Bounds.{within}
-
--- a ground is not met, or met at a line
-pub data Met : Type 0 where
-  unmet : Met
-  metAt : ℕ → Cause → Met
+use Rattle.gate_model.specs.declared.refusal.Met.{Met}
+use Rattle.gate_model.specs.declared.refusal.Met.the-variants.{NotMet, MetAt}
+use Rattle.gate_model.specs.declared.refusal.Ground.{Ground}
+use Rattle.gate_model.specs.declared.refusal.Ground.the-variants.{UnknownCustomer, AmountOutOfBounds, WrongPhase, UnlawfulPeriod, LineCount, UnlawfulLine, NotTheirRight, NotFree, NoRoom, NoPrice, CostTooLarge, AboveSecurity, UnlawfulAward}
+use Rattle.std.specs.declared.option.Option.the-variants.{Some, None}
 
 -- met by the call as a whole
 abbrev pub atCall : Bool → Met
-atCall t = cond t (metAt 0 plain) unmet
+atCall t = cond t (MetAt 0 None) NotMet
 
 -- the first line that meets the test; i is the number of the line
 abbrev pub atLine : {X : Type 0} → (ℕ → X → Bool) → ℕ → List X → Met
-atLine test i [] = unmet
-atLine test i (l ∷ ls) = cond (test i l) (metAt i plain) (atLine test (suc i) ls)
+atLine test i [] = NotMet
+atLine test i (l ∷ ls) = cond (test i l) (MetAt i None) (atLine test (suc i) ls)
 
 -- the first line that meets the test, where the lines before it stand already in s
 abbrev pub atStanding : (State → Line → State) → (State → Line → Bool) → ℕ → State → List Line → Met
-atStanding stands test i s [] = unmet
-atStanding stands test i s (l ∷ ls) = cond (test s l) (metAt i plain) (atStanding stands test (suc i) (stands s l) ls)
+atStanding stands test i s [] = NotMet
+atStanding stands test i s (l ∷ ls) = cond (test s l) (MetAt i None) (atStanding stands test (suc i) (stands s l) ls)
 
 abbrev pub unlessPriced : Result ℤ Fault → ℕ → Met → Met
 unlessPriced (Ok r) line m = m
-unlessPriced (Err f) line m = metAt line (noPrice f)
+unlessPriced (Err f) line m = MetAt line (Some f)
 
 -- the first line whose key has no price
 abbrev pub atPrice : {X : Type 0} → (X → Result ℤ Fault) → (ℕ → X → ℕ) → ℕ → List X → Met
-atPrice asked line-of i [] = unmet
+atPrice asked line-of i [] = NotMet
 atPrice asked line-of i (l ∷ ls) = unlessPriced (asked l) (line-of i l) (atPrice asked line-of (suc i) ls)
 
 -- 3
@@ -159,83 +159,83 @@ cents z = natAbs z
 
 -- no ground is met
 abbrev pub isUnmet : Met → Bool
-isUnmet unmet = true
-isUnmet (metAt line cause) = false
+isUnmet NotMet = true
+isUnmet (MetAt line cause) = false
 
-abbrev pub approved : List (ℕ × Met) → Bool
+abbrev pub approved : List (Ground × Met) → Bool
 approved [] = true
 approved (g ∷ gs) = isUnmet (g .1) && approved gs
 
-abbrev pub grounds : State → Call → List (ℕ × Met)
+abbrev pub grounds : State → Call → List (Ground × Met)
 grounds s (posting c n) =
-    (1, atCall (not (customer c)))
-    ∷ (2, atCall (ltZ n (pos 1) || outside (afterCents s c n)))
+    (UnknownCustomer, atCall (not (customer c)))
+    ∷ (AmountOutOfBounds, atCall (ltZ n (pos 1) || outside (afterCents s c n)))
     ∷ []
 grounds s (returning c n) =
-    (1, atCall (not (customer c)))
-    ∷ (2, atCall (ltZ n (pos 1) || outside (afterCents s c (negℤ n))))
-    ∷ (12, atCall (above (withAccount s c (secured (cents (afterCents s c (negℤ n))))) c))
+    (UnknownCustomer, atCall (not (customer c)))
+    ∷ (AmountOutOfBounds, atCall (ltZ n (pos 1) || outside (afterCents s c (negℤ n))))
+    ∷ (AboveSecurity, atCall (above (withAccount s c (secured (cents (afterCents s c (negℤ n))))) c))
     ∷ []
 grounds s (charge c n) =
-    (1, atCall (not (customer c)))
-    ∷ (2, atCall (not (within (10 ^ 15) n) || not (within (10 ^ 17) (s .accounts c .calculated +ℤ n))))
+    (UnknownCustomer, atCall (not (customer c)))
+    ∷ (AmountOutOfBounds, atCall (not (within (10 ^ 15) n) || not (within (10 ^ 17) (s .accounts c .calculated +ℤ n))))
     ∷ []
 grounds s (invoice c) =
-    (1, atCall (not (customer c)))
-    ∷ (2, atCall (not (within (10 ^ 17) (s .accounts c .invoiced +ℤ s .accounts c .calculated))))
+    (UnknownCustomer, atCall (not (customer c)))
+    ∷ (AmountOutOfBounds, atCall (not (within (10 ^ 17) (s .accounts c .invoiced +ℤ s .accounts c .calculated))))
     ∷ []
 grounds s (payment c) =
-    (1, atCall (not (customer c)))
+    (UnknownCustomer, atCall (not (customer c)))
     ∷ []
 grounds s (opening p) =
-    (3, atCall (not (isIdle (s .phase))))
-    ∷ (4, atCall (not (lawfulPeriod p && leb (s .month) (p .first))))
-    ∷ (9, atCall (ltb 1_000_000 (s .auctions + 1)))
+    (WrongPhase, atCall (not (isIdle (s .phase))))
+    ∷ (UnlawfulPeriod, atCall (not (lawfulPeriod p && leb (s .month) (p .first))))
+    ∷ (NoRoom, atCall (ltb 1_000_000 (s .auctions + 1)))
     ∷ []
 grounds s (submission w c lines) =
-    (1, atCall (not (customer c)))
-    ∷ (3, atCall (not (showsOpen (s .phase) w)))
-    ∷ (5, atCall (not (lawfulCount (length lines))))
-    ∷ (6, atLine (λ _ l. not (lawfulLine l)) 1 lines)
-    ∷ (7, atLine (λ _ l. not (owns c (s .rights) l)) 1 lines)
-    ∷ (8, atStanding (stand c (w .period)) (λ t l. not (free (w .period) t l)) 1 s lines)
-    ∷ (9, atStanding (stand c (w .period)) (λ t l. crowded (stand c (w .period) t l)) 1 s lines)
-    ∷ (10, atPrice (asked (s .prices) (s .rights) (w .period)) (λ i _. i) 1 lines)
-    ∷ (11, atStanding (stand c (w .period)) (λ t l. costly (stand c (w .period) t l) c) 1 s lines)
-    ∷ (12, atStanding (stand c (w .period)) (λ t l. above (stand c (w .period) t l) c) 1 s lines)
+    (UnknownCustomer, atCall (not (customer c)))
+    ∷ (WrongPhase, atCall (not (showsOpen (s .phase) w)))
+    ∷ (LineCount, atCall (not (lawfulCount (length lines))))
+    ∷ (UnlawfulLine, atLine (λ _ l. not (lawfulLine l)) 1 lines)
+    ∷ (NotTheirRight, atLine (λ _ l. not (owns c (s .rights) l)) 1 lines)
+    ∷ (NotFree, atStanding (stand c (w .period)) (λ t l. not (free (w .period) t l)) 1 s lines)
+    ∷ (NoRoom, atStanding (stand c (w .period)) (λ t l. crowded (stand c (w .period) t l)) 1 s lines)
+    ∷ (NoPrice, atPrice (asked (s .prices) (s .rights) (w .period)) (λ i _. i) 1 lines)
+    ∷ (CostTooLarge, atStanding (stand c (w .period)) (λ t l. costly (stand c (w .period) t l) c) 1 s lines)
+    ∷ (AboveSecurity, atStanding (stand c (w .period)) (λ t l. above (stand c (w .period) t l) c) 1 s lines)
     ∷ []
 grounds s (conversionOf w c lines) =
-    (1, atCall (not (customer c)))
-    ∷ (3, atCall (not (showsOpen (s .phase) w)))
-    ∷ (5, atCall (not (lawfulCount (length lines))))
-    ∷ (6, atLine (λ _ l. not (lawfulRequest l)) 1 lines)
-    ∷ (9, atLine (λ i _. crowded (converting s c (w .period) (take i lines))) 1 lines)
-    ∷ (10, atPrice (λ l. s .prices (lineKey (w .period) (l .path) (l .class))) (λ i _. i) 1 lines)
-    ∷ (12, atCall (above (converting s c (w .period) lines) c))
+    (UnknownCustomer, atCall (not (customer c)))
+    ∷ (WrongPhase, atCall (not (showsOpen (s .phase) w)))
+    ∷ (LineCount, atCall (not (lawfulCount (length lines))))
+    ∷ (UnlawfulLine, atLine (λ _ l. not (lawfulRequest l)) 1 lines)
+    ∷ (NoRoom, atLine (λ i _. crowded (converting s c (w .period) (take i lines))) 1 lines)
+    ∷ (NoPrice, atPrice (λ l. s .prices (lineKey (w .period) (l .path) (l .class))) (λ i _. i) 1 lines)
+    ∷ (AboveSecurity, atCall (above (converting s c (w .period) lines) c))
     ∷ []
 grounds s (closing w) =
-    (3, atCall (not (showsOpen (s .phase) w)))
+    (WrongPhase, atCall (not (showsOpen (s .phase) w)))
     ∷ []
 grounds s (award w k q x) =
-    (3, atCall (not (showsClosed (s .phase) w)))
-    ∷ (13, atCall (not (stands s k && lawfulAward (itemAt k (s .items)) q x)))
+    (WrongPhase, atCall (not (showsClosed (s .phase) w)))
+    ∷ (UnlawfulAward, atCall (not (stands s k && lawfulAward (itemAt k (s .items)) q x)))
     ∷ []
 grounds s (ending w) =
-    (3, atCall (not (showsClosed (s .phase) w)))
+    (WrongPhase, atCall (not (showsClosed (s .phase) w)))
     ∷ []
 grounds s (transfer seller buyer k q) =
-    (1, atCall (not (customer seller) || (not (customer buyer) || eqb seller buyer)))
-    ∷ (6, atCall (not (lawfulMegawatts q)))
-    ∷ (7, atCall (not (hasRight (s .rights) seller k)))
-    ∷ (8, atCall (not (leb (s .month) (rightAt k (s .rights) .key .slot .period .first) && uncommitted s k q)))
-    ∷ (9, atCall (crowded (transferred s buyer k q)))
-    ∷ (12, atLine (λ _ c. above (transferred s buyer k q) c) 1 (seller ∷ buyer ∷ []))
+    (UnknownCustomer, atCall (not (customer seller) || (not (customer buyer) || eqb seller buyer)))
+    ∷ (UnlawfulLine, atCall (not (lawfulMegawatts q)))
+    ∷ (NotTheirRight, atCall (not (hasRight (s .rights) seller k)))
+    ∷ (NotFree, atCall (not (leb (s .month) (rightAt k (s .rights) .key .slot .period .first) && uncommitted s k q)))
+    ∷ (NoRoom, atCall (crowded (transferred s buyer k q)))
+    ∷ (AboveSecurity, atLine (λ _ c. above (transferred s buyer k q) c) 1 (seller ∷ buyer ∷ []))
     ∷ []
 grounds s monthTurn =
-    (2, atLine (λ _ c. not (within (10 ^ 17) (s .accounts c .calculated +ℤ s .accounts c .costs (s .month)))) 1 customers)
-    ∷ (3, atCall (not (isIdle (s .phase)) || eqb (s .month) 12))
+    (AmountOutOfBounds, atLine (λ _ c. not (within (10 ^ 17) (s .accounts c .calculated +ℤ s .accounts c .costs (s .month)))) 1 customers)
+    ∷ (WrongPhase, atCall (not (isIdle (s .phase)) || eqb (s .month) 12))
     ∷ []
 grounds s (newBook p) =
-    (3, atCall (not (isIdle (s .phase))))
-    ∷ (10, atPrice (λ r. p (r .key)) (λ _ r. r .number) 1 (s .rights))
+    (WrongPhase, atCall (not (isIdle (s .phase))))
+    ∷ (NoPrice, atPrice (λ r. p (r .key)) (λ _ r. r .number) 1 (s .rights))
     ∷ []

@@ -1,3 +1,4 @@
+pub mod Refusals
 pub mod Money
 pub mod Sums
 pub mod Measures

@@ -3,8 +3,10 @@
 //!
 //! The types are those that the gate keeps its tables in.
 mod conversion;
+mod outcome;
 mod phase;
 mod point;
+mod refusal;
 mod right;
 mod theorem;
 
@@ -16,6 +18,10 @@ pub use conversion::Request;
 pub use conversion::RequestDebug;
 pub use conversion::RequestEq;
 pub use conversion::RequestPartialEq;
+pub use outcome::Outcome;
+pub use outcome::OutcomeDebug;
+pub use outcome::OutcomeEq;
+pub use outcome::OutcomePartialEq;
 pub use phase::Phase;
 pub use phase::PhaseDebug;
 pub use phase::PhaseEq;
@@ -28,6 +34,19 @@ pub use point::Point;
 pub use point::PointDebug;
 pub use point::PointEq;
 pub use point::PointPartialEq;
+pub use refusal::Ground;
+pub use refusal::GroundDebug;
+pub use refusal::GroundEq;
+pub use refusal::GroundPartialEq;
+pub use refusal::Met;
+pub use refusal::MetDebug;
+pub use refusal::MetEq;
+pub use refusal::MetPartialEq;
+pub use refusal::Refusal;
+pub use refusal::RefusalDebug;
+pub use refusal::RefusalEq;
+pub use refusal::RefusalPartialEq;
+pub use refusal::ground_number;
 pub use right::Right;
 pub use right::RightDebug;
 pub use right::RightEq;
