@@ -1,0 +1,14 @@
+pub mod Refusals
+pub mod Money
+pub mod Sums
+pub mod Measures
+pub mod Curves
+pub mod State
+pub mod Requirement
+pub mod Effects
+pub mod Calls
+pub mod Grounds
+pub mod Run
+pub mod Clearing
+pub mod Conservation
+pub mod Law
