@@ -177,3 +177,10 @@ hoursIn r slot year = hoursBy (countsIn r slot) year
 
 abbrev pub pricesIn : Records → ℕ → Slot → ℕ → Option (List ℤ)
 pricesIn r location slot year = pricesAmong (r .years) (record { location = location; slot = slot; year = year })
+
+-- the hours and the prices that numbers mean. They stay shut where a source is used: an answer then speaks of them by name, and not of the whole format
+unfoldable pub recordedHours : List ℤ → Slot → ℕ → ℕ
+recordedHours xs slot year = hoursIn (recordsOf xs) slot year
+
+unfoldable pub recordedPrices : List ℤ → ℕ → Slot → ℕ → Option (List ℤ)
+recordedPrices xs location slot year = pricesIn (recordsOf xs) location slot year

@@ -1,5 +1,5 @@
 //! Recorded hours as an hour source.
-ghost use Rattle.hours.specs.RecordedFormat.{recordsOf, hoursIn, pricesIn};
+ghost use Rattle.hours.specs.RecordedFormat.{recordedHours, recordedPrices};
 ghost use Rattle.std.specs.Of.Vec.{vec-items};
 use super::entry::RECORDED_LOCATIONS;
 use super::entry::hours_by;
@@ -21,9 +21,9 @@ pub impl HourSource for Recorded as RecordedHours {
     ghost locations = { 64 };
 
     /// A slot that is not listed has no hours, and a year that is not listed has no prices.
-    ghost hours = { λ source slot year. hoursIn (recordsOf (vec-items (source .numbers))) slot year };
+    ghost hours = { λ source slot year. recordedHours (vec-items (source .numbers)) slot year };
 
-    ghost prices = { λ source location slot year. pricesIn (recordsOf (vec-items (source .numbers))) location slot year };
+    ghost prices = { λ source location slot year. recordedPrices (vec-items (source .numbers)) location slot year };
 
     fn location_count() -> u8 {
         Self::LOCATIONS

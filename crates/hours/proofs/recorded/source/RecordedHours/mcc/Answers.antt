@@ -12,10 +12,12 @@ use Rattle.std.specs.Of.Vec.{vec-items, vec-len}
 use Rattle.std.specs.declared.result.Result.the-variants.{Ok, Err}
 use Rattle.hours.specs.Questions.{yearOf}
 use Rattle.hours.specs.RecordedFormat.{recordsOf, pricesIn}
+use Rattle.hours.specs.RecordedFormat.{recordedHours, recordedPrices}
 use Rattle.hours.proofs.RecordedAnswers.{hour-answered, past-answered}
 use Rattle.hours.proofs.recorded.source.RecordedHours.mcc.Needs as need
 
 pub returns-then-span-hour : need.returns-then-span-hour
+unfolding recordedHours recordedPrices
 returns-then-span-hour c =
     let xs = vec-items (c .args .self .now .numbers) in
     let year = yearOf 64 (pricesIn (recordsOf xs)) (c .args .location) (c .args .slot) (c .args .year) in
@@ -26,6 +28,7 @@ returns-then-span-hour c =
     ∙ past-answered xs (span .start) (span .hours) (c .args .hour) (c .args .location) (c .args .year) year within (e .prices) (c .if-span-hour .taken)
 
 pub returns : need.returns
+unfolding recordedHours recordedPrices
 returns c =
     let xs = vec-items (c .args .self .now .numbers) in
     let year = yearOf 64 (pricesIn (recordsOf xs)) (c .args .location) (c .args .slot) (c .args .year) in
@@ -38,3 +41,7 @@ returns c =
     let f : SFits w32 (c .index .result .now) = search needs in
     ap Ok (toZ-ofZ w32 (c .index .result .now) f ∙ getD-read xs (span .start + hour) (c .index .result .now) inside (c .index .ensures) (pos 0))
     ∙ hour-answered xs (span .start) (span .hours) hour (c .args .location) (c .args .year) year within (e .prices) below
+
+pub returns-in-Break-span : need.returns-in-Break-span
+unfolding recordedHours recordedPrices
+returns-in-Break-span c = search needs
