@@ -1,4 +1,5 @@
 //! All that is written for the calls of a journal: a line for each, and a last line that counts them.
+ghost use mathlib.Core.Bool.{cond};
 ghost use mathlib.Core.List.{_++_};
 ghost use mathlib.Core.Path.{_≡_};
 ghost use Prim.Native.Nat.{_≤_};
@@ -32,15 +33,20 @@ fn counts_as(kind: Kind, outcome: Outcome) -> bool
     }
 }
 
+fn counted(kind: Kind, outcome: Outcome) -> usize
+    ensures within { λ r. ⌜ r ≤ 1 ⌝ }
+    ensures value { λ r. ⌜ r ≡ cond (countsAs kind outcome) 1 0 ⌝ }
+{
+    if counts_as(kind, outcome) { 1 } else { 0 }
+}
+
 fn how_often(outcomes: &[Outcome], kind: Kind) -> usize
     ensures within { λ r. ⌜ r ≤ length (now (outcomes .entry)) ⌝ }
     ensures value { λ r. ⌜ r ≡ howOften kind (now (outcomes .entry)) ⌝ }
 {
     let mut n: usize = 0;
     for i in 0..outcomes.len() {
-        if counts_as(kind, outcomes[i]) {
-            n += 1;
-        }
+        n += counted(kind, outcomes[i]);
     }
     n
 }

@@ -2,6 +2,7 @@
 ghost use mathlib.Core.Bool.{true};
 ghost use mathlib.Core.Path.{_≡_};
 ghost use Rattle.std.specs.Of.Vec.{vec-items};
+ghost use Rattle.std.specs.Options.{Cases as BySome, isSome};
 ghost use Rattle.books.specs.Bands.{held as heldOf, lawfulLimits};
 ghost use Rattle.books.specs.Results.{bind};
 ghost use Rattle.std.specs.declared.result.Result.the-variants.{Ok};
@@ -53,17 +54,18 @@ fn held(price: i64, limits: Limits) -> i64
 fn held_by_all(price: i64, bands: &[Limits]) -> i64
     ensures { λ r. ⌜ r ≡ heldAll (now (bands .entry)) price ⌝ }
 {
-    let mut price = price;
+    let mut kept = price;
     for i in 0..bands.len() {
-        price = held(price, bands[i]);
+        kept = held(kept, bands[i]);
     }
-    price
+    kept
 }
 
 impl<B: Drop> Banded<B> {
     /// A band that is unlawful makes no book.
     pub fn new(below: B, bands: Vec<Limits>) -> Option<Banded<B>>
-        ensures { λ r. ⌜ Rattle.tcr_gate.specs.Stacks.Stacked below (vec-items bands) r ⌝ }
+        ensures made { λ r. ⌜ BySome r Unit (λ b. (b .below ≡ below) × (b .bands ≡ bands)) ⌝ }
+        ensures refusal { λ r. ⌜ isSome r ≡ allLawful (vec-items bands) ⌝ }
     {
         if !are_lawful(bands.as_slice()) {
             return None;

@@ -1,0 +1,1 @@
+-- What a book of each kind means by its parts. Assumes nothing.
