@@ -1,5 +1,5 @@
 pub mod Drafts
-pub mod Kinds
+pub mod EachKind
 pub mod Stacks
 pub mod Books
 pub mod Plays

@@ -25,7 +25,10 @@ pub struct Banded<B> {
 fn is_lawful(limits: Limits) -> bool
     ensures { λ r. ⌜ r ≡ lawfulLimits (limits .low) (limits .high) ⌝ }
 {
-    Band::new((), limits.low, limits.high).is_ok()
+    match Band::new((), limits.low, limits.high) {
+        Ok(_) => true,
+        Err(_) => false,
+    }
 }
 
 fn are_lawful(bands: &[Limits]) -> bool

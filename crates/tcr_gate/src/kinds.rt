@@ -1,6 +1,5 @@
 //! A book of one of the kinds that a journal can put together.
-ghost use mathlib.Core.Path.{_≡_};
-ghost use Rattle.tcr_gate.specs.Kinds.{byKind};
+ghost use Rattle.tcr_gate.specs.EachKind.{byKind};
 use books::Book;
 use books::Key;
 use hours::Fault;
