@@ -1,2 +1,1 @@
 pub mod Limited
-pub mod Meanings

@@ -31,8 +31,8 @@ use Rattle.journal.specs.declared.outcome.Outcome.{Outcome}
 use Rattle.journal.specs.declared.outcome.Outcome.the-variants.{Price, Fault as A-fault}
 use Rattle.journal.specs.declared.outcome.Refusal.{Refusal}
 use Rattle.tcr_gate.specs.declared.banded.Banded.{Banded}
-use Rattle.tcr_gate.specs.declared.kinds.Kinds.{Kinds}
-use Rattle.tcr_gate.specs.declared.kinds.Kinds.the-variants as kind
+use Rattle.tcr_gate.specs.declared.kinds.Either.{Either}
+use Rattle.tcr_gate.specs.declared.kinds.Either.the-variants.{First, Second}
 use Rattle.tcr_gate.specs.declared.seat.Finished.{Finished}
 use Rattle.tcr_gate.specs.declared.seat.Finished.the-variants as finish
 use Rattle.tcr_gate.specs.Drafts.{Hours, averages, recordings, Prices, postings, histories, Drafted, nothing, rows, average, recorded, proxied, book, draftOf}
@@ -44,15 +44,15 @@ pub record Priced : Type 0 where
   pub bands : List Limits
 
 abbrev pub Seated : Type 0
-Seated = Kinds Posted (History Average) (History (Proxy Average)) (History Recorded) (History (Proxy Recorded))
+Seated = Either Posted (Either (Either (History Average) (History (Proxy Average))) (Either (History Recorded) (History (Proxy Recorded))))
 
 -- what a book that was made is made of
 abbrev pub pricesOf : Seated → Prices
-pricesOf (kind.Posted b) = postings (vec-items (b .rows))
-pricesOf (kind.Average b) = histories (averages (vec-items (b .source .counts)) (vec-items (b .source .means))) false
-pricesOf (kind.ProxiedAverage b) = histories (averages (vec-items (b .source .below .counts)) (vec-items (b .source .below .means))) true
-pricesOf (kind.Recorded b) = histories (recordings (vec-items (b .source .numbers))) false
-pricesOf (kind.ProxiedRecorded b) = histories (recordings (vec-items (b .source .below .numbers))) true
+pricesOf (First b) = postings (vec-items (b .rows))
+pricesOf (Second (First (First b))) = histories (averages (vec-items (b .source .counts)) (vec-items (b .source .means))) false
+pricesOf (Second (First (Second b))) = histories (averages (vec-items (b .source .below .counts)) (vec-items (b .source .below .means))) true
+pricesOf (Second (Second (First b))) = histories (recordings (vec-items (b .source .numbers))) false
+pricesOf (Second (Second (Second b))) = histories (recordings (vec-items (b .source .below .numbers))) true
 
 abbrev pub bookOf : Banded Seated → Priced
 bookOf b = record { prices = pricesOf (b .below); bands = vec-items (b .bands) }

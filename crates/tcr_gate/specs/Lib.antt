@@ -2,4 +2,3 @@ pub mod Drafts
 pub mod EachKind
 pub mod Stacks
 pub mod Books
-pub mod Plays

@@ -57,11 +57,11 @@ fn held(price: i64, limits: Limits) -> i64
 fn held_by_all(price: i64, bands: &[Limits]) -> i64
     ensures { λ r. ⌜ r ≡ heldAll (now (bands .entry)) price ⌝ }
 {
-    let mut kept = price;
+    let mut narrowed = price;
     for i in 0..bands.len() {
-        kept = held(kept, bands[i]);
+        narrowed = held(narrowed, bands[i]);
     }
-    kept
+    narrowed
 }
 
 impl<B: Drop> Banded<B> {

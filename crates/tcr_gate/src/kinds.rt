@@ -1,29 +1,22 @@
-//! A book of one of the kinds that a journal can put together.
-ghost use Rattle.tcr_gate.specs.EachKind.{byKind};
+//! A book of either of two kinds. The kinds that a journal can put together are told apart by nesting it.
+ghost use Rattle.tcr_gate.specs.EachKind.{either};
 use books::Book;
 use books::Key;
 use hours::Fault;
 
-/// Posted prices, or prices from average or recorded hours, bare or under a proxy.
 #[derive(Drop)]
-pub enum Kinds<P, A, B, C, D> {
-    Posted(P),
-    Average(A),
-    ProxiedAverage(B),
-    Recorded(C),
-    ProxiedRecorded(D),
+pub enum Either<L, R> {
+    First(L),
+    Second(R),
 }
 
-pub impl<P: Book, A: Book, B: Book, C: Book, D: Book> Book for Kinds<P, A, B, C, D> as KindsBook {
-    ghost meaning = { λ b k. byKind (λ x. P·Book .meaning x k) (λ x. A·Book .meaning x k) (λ x. B·Book .meaning x k) (λ x. C·Book .meaning x k) (λ x. D·Book .meaning x k) b };
+pub impl<L: Book, R: Book> Book for Either<L, R> as EitherBook {
+    ghost meaning = { λ b k. either (λ x. L·Book .meaning x k) (λ x. R·Book .meaning x k) b };
 
     fn price(&self, key: Key) -> Result<i64, Fault> {
         match self {
-            Kinds::Posted(book) => book.price(key),
-            Kinds::Average(book) => book.price(key),
-            Kinds::ProxiedAverage(book) => book.price(key),
-            Kinds::Recorded(book) => book.price(key),
-            Kinds::ProxiedRecorded(book) => book.price(key),
+            Either::First(book) => book.price(key),
+            Either::Second(book) => book.price(key),
         }
     }
 }

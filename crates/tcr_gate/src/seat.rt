@@ -2,12 +2,12 @@
 ghost use mathlib.Core.Path.{_≡_};
 ghost use Rattle.std.specs.Of.Vec.{vec-items};
 ghost use Rattle.std.specs.Results.{mapped};
-ghost use Rattle.tcr_gate.specs.Drafts.{draftOf, hoursOf, partsOf};
-ghost use Rattle.tcr_gate.specs.Books.{pricesOf, averageMade, recordedMade, hoursMade, pricesMade, finishedOf, finishedBook, finished, bookOf, answered, priceBy};
+ghost use Rattle.tcr_gate.specs.Drafts.{draftOf, partsOf};
+ghost use Rattle.tcr_gate.specs.Books.{pricesOf, averageMade, recordedMade, pricesMade, finishedOf, finishedBook, finished};
 use crate::banded::Banded;
 use crate::banded::BandedBook;
-use crate::kinds::Kinds;
-use crate::kinds::KindsBook;
+use crate::kinds::Either;
+use crate::kinds::EitherBook;
 use crate::parts::Draft;
 use crate::parts::HourParts;
 use crate::parts::PriceParts;
@@ -32,13 +32,10 @@ use journal::Outcome;
 use journal::Refusal;
 use std::alloc::Global;
 
-pub type SeatedPrices = Kinds<
-    Posted,
-    History<Average>,
-    History<Proxy<Average>>,
-    History<Recorded>,
-    History<Proxy<Recorded>>,
->;
+/// The history of hours, bare or under a proxy.
+pub type Hourly<S> = Either<History<S>, History<Proxy<S>>>;
+
+pub type SeatedPrices = Either<Posted, Either<Hourly<Average>, Hourly<Recorded>>>;
 
 pub type SeatedBook = Banded<SeatedPrices>;
 
@@ -53,9 +50,9 @@ fn make_average(
         Ok(source) => {
             if proxied {
                 let source = Proxy { below: source };
-                return Ok(Kinds::ProxiedAverage(History { source }));
+                return Ok(Either::Second(Either::First(Either::Second(History { source }))));
             }
-            Ok(Kinds::Average(History { source }))
+            Ok(Either::Second(Either::First(Either::First(History { source }))))
         }
         Err(refused) => Err(Refusal {
             ground: Ground::UnlawfulAverage,
@@ -72,9 +69,9 @@ fn make_recorded(numbers: Vec<i32>, proxied: bool) -> Result<SeatedPrices, Refus
             let source = Recorded::new(numbers);
             if proxied {
                 let source = Proxy { below: source };
-                return Ok(Kinds::ProxiedRecorded(History { source }));
+                return Ok(Either::Second(Either::Second(Either::Second(History { source }))));
             }
-            Ok(Kinds::Recorded(History { source }))
+            Ok(Either::Second(Either::Second(Either::First(History { source }))))
         }
         Err(unlawful) => Err(Refusal {
             ground: Ground::UnlawfulRecords,
@@ -88,7 +85,7 @@ fn make_prices(prices: PriceParts) -> Result<SeatedPrices, Refusal>
 {
     match prices {
         PriceParts::Posted(rows) => match Posted::new(rows) {
-            Ok(book) => Ok(Kinds::Posted(book)),
+            Ok(book) => Ok(Either::First(book)),
             Err(refused) => Err(Refusal {
                 ground: Ground::UnlawfulPosting,
                 line: refused.unlawful.line,
@@ -135,12 +132,3 @@ pub fn finish(heap: Global, draft: Draft) -> Finished
     }
 }
 
-/// The answer of the book in force.
-pub fn answer(book: &SeatedBook, key: Key) -> Outcome
-    ensures { λ r. ⌜ r ≡ answered (priceBy (bookOf (now (book .entry))) key) ⌝ }
-{
-    match book.price(key) {
-        Ok(price) => Outcome::Price(price),
-        Err(fault) => Outcome::Fault(fault),
-    }
-}

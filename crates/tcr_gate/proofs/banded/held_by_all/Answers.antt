@@ -8,13 +8,13 @@ use Rattle.tcr_gate.proofs.banded.held_by_all.Needs as need
 
 pub loop-i-again : need.loop-i-again
 loop-i-again c =
-    let e = at-drop-more (λ (ls : List Limits). heldAll ls (c .loop-i .kept)) (c .args .bands .now) (c .loop-i .i) noLimits (omega arith) in
-    let h = c .held .ensures in
+    let e = at-drop-more (λ (ls : List Limits). heldAll ls (c .loop-i .narrowed)) (c .args .bands .now) (c .loop-i .i) noLimits (omega arith) in
+    let h = c .held-narrowed .ensures in
     let i = c .loop-i .inv in
     grind arith
 
 pub returns : need.returns
 returns c =
-    let e = at-drop-all (λ (ls : List Limits). heldAll ls (c .loop-i .kept)) (c .args .bands .now) (c .loop-i .i) (omega arith) in
+    let e = at-drop-all (λ (ls : List Limits). heldAll ls (c .loop-i .narrowed)) (c .args .bands .now) (c .loop-i .i) (omega arith) in
     let i = c .loop-i .inv in
     grind arith

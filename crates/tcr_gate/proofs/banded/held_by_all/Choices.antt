@@ -4,4 +4,4 @@ use Rattle.tcr_gate.specs.Stacks.{heldAll}
 use Rattle.tcr_gate.proofs.banded.held_by_all.Given as given
 
 abbrev pub Inv-loop-i : given.InvT-loop-i
-Inv-loop-i l = heldAll (drop (l .i) (l .bands)) (l .kept) ≡ heldAll (l .bands) (l .price)
+Inv-loop-i l = heldAll (drop (l .i) (l .bands)) (l .narrowed) ≡ heldAll (l .bands) (l .price)

@@ -1,1 +1,0 @@
--- What a book of each kind means by its parts. Assumes nothing.
