@@ -3,7 +3,7 @@ ghost use mathlib.Core.Path.{_≡_};
 ghost use Rattle.std.specs.Of.Vec.{vec-items};
 ghost use Rattle.std.specs.Results.{mapped};
 ghost use Rattle.tcr_gate.specs.Drafts.{draftOf, partsOf};
-ghost use Rattle.tcr_gate.specs.Books.{pricesOf, averageMade, recordedMade, pricesMade, finishedOf, finishedBook, finished};
+ghost use Rattle.tcr_gate.specs.Books.{pricesOf, averageMade, recordedMade, pricesMade, finishedOf, finishedBook, finished, answered};
 use crate::banded::Banded;
 use crate::banded::BandedBook;
 use crate::kinds::Either;
@@ -132,3 +132,12 @@ pub fn finish(heap: Global, draft: Draft) -> Finished
     }
 }
 
+/// The answer of a book to a question.
+pub fn answer<B: Book>(book: &B, key: Key) -> Outcome
+    ensures { λ r. ⌜ r ≡ answered (B·Book .meaning (now (book .entry)) key) ⌝ }
+{
+    match book.price(key) {
+        Ok(price) => Outcome::Price(price),
+        Err(fault) => Outcome::Fault(fault),
+    }
+}
