@@ -1,6 +1,7 @@
 -- The play of a journal. Assumes nothing.
 use mathlib.Core.Bool.{Bool, cond}
 use mathlib.Core.List.{List, [], _∷_, _++_}
+use mathlib.Core.Path.{_≡_}
 use Prim.Native.Nat.{ℕ}
 use Rattle.std.specs.Options.{mapped}
 use Rattle.std.specs.declared.option.Option.{Option}
@@ -58,6 +59,20 @@ plainIn s n says.History = placedIn s n (placed (s .draft) says.History)
 plainIn s n (says.Band l) = placedIn s n (placed (s .draft) (says.Band l))
 plainIn s n says.Seat = seatIn s n
 plainIn s n (says.Price k) = (s, Some (priceIn (s .book) k n))
+
+-- what is written for a line is as defined, but for the answer to a question
+abbrev pub Told : Plain → Option Outcome → Option Outcome → Type 0
+Told says.Posted a b = a ≡ b
+Told (says.Row r) a b = a ≡ b
+Told says.Average a b = a ≡ b
+Told (says.Count c) a b = a ≡ b
+Told (says.Mean m) a b = a ≡ b
+Told says.Recorded a b = a ≡ b
+Told says.Proxy a b = a ≡ b
+Told says.History a b = a ≡ b
+Told (says.Band l) a b = a ≡ b
+Told says.Seat a b = a ≡ b
+Told (says.Price k) a b = Unit {0}
 
 -- what an entry does, and what is written for it
 abbrev pub meantIn : Standing → ℕ → Meant → Standing × Option Outcome

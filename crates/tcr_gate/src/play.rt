@@ -4,7 +4,7 @@ ghost use mathlib.Core.Path.{_≡_};
 ghost use Rattle.std.specs.Of.Vec.{vec-items};
 ghost use Rattle.std.specs.Vec.{made};
 ghost use Rattle.journal.specs.Entries.{entryOf};
-ghost use Rattle.tcr_gate.specs.Plays.{playOf, silentIf, seatIn, plainIn, stepped, listed};
+ghost use Rattle.tcr_gate.specs.Plays.{playOf, silentIf, seatIn, Told, plainIn, stepped, listed};
 use crate::banded::BandedBook;
 use crate::draft::place;
 use crate::draft::with_numbers;
@@ -81,7 +81,8 @@ fn play_plain(
     line: usize,
     plain: Plain,
 ) -> Result<(Play, Option<Outcome>), AllocError>
-    ensures { λ r. ⌜ made r (λ x. playOf (x .0) ≡ plainIn (playOf play) line plain .0) ⌝ }
+    ensures after { λ r. ⌜ made r (λ x. playOf (x .0) ≡ plainIn (playOf play) line plain .0) ⌝ }
+    ensures told { λ r. ⌜ made r (λ x. Told plain (x .1) (plainIn (playOf play) line plain .1)) ⌝ }
 {
     match plain {
         Plain::Seat => Ok(seat(heap, play, line)),
