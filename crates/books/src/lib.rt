@@ -1,6 +1,7 @@
 //! Price books: for each key, a path in the hours of a slot, a price or the reason why there is none.
 //!
 //! `book` has the interface; `posted`, `band` and `history` are the books that ship.
+#![tactic(auto)]
 mod band;
 mod book;
 mod difference;

@@ -2,6 +2,7 @@
 //! and the law that holds after any list of calls, proved of them.
 //!
 //! The types are those that the gate keeps its tables in.
+#![tactic(auto)]
 mod call;
 mod conversion;
 mod line;

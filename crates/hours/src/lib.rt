@@ -2,6 +2,7 @@
 //! and for each location the congestion price of every hour of a past year.
 //!
 //! `source` has the interface; `average`, `recorded` and `proxy` are the sources that ship.
+#![tactic(auto)]
 mod average;
 mod average_hours;
 mod fault;
