@@ -1,5 +1,5 @@
 -- The bounds on what a source may say.
-use Rattle.std.specs.Prelude.{ℕ, ◌≤◌, Bool, ◌&&◌, ℤ, pos, neg_ℤ, ◌≤ℤ◌, int_le}
+use Rattle.std.specs.Prelude.{ℕ, Bool, ◌&&◌, ℤ, pos, neg_ℤ, ◌≤ℤ◌, int_le}
 
 -- z lies between -b and b
 abbrev pub Within : ℕ → ℤ → Type 0

@@ -1,21 +1,20 @@
 -- Sums and means of the prices that several locations have in an hour.
-use Rattle.std.specs.Prelude.{◌≡◌, ℕ, zero, suc, ◌+◌, ◌*◌, ◌/◌, ◌<◌, ◌≤◌, Bool, true, false, cond, ◌&&◌, ◌⊎◌, List, [], ◌∷◌, map, length, ℤ, pos, negsuc, ◌+ℤ◌, neg_ℤ, ◌≤ℤ◌, Some, None, Ok, Err, Option, Result, ◌≢◌, nat_lt, slice_index_or, refl}
-use Rattle.std.proofs.Common.{sym, ap, subst, ◌∙◌, inl, inr, div-lt_iff_lt-mul, mul-add, mul_comm, add-one, arith}
+use Rattle.std.specs.Prelude.{◌≡◌, ℕ, zero, suc, ◌+◌, ◌*◌, ◌/◌, ◌<◌, ◌≤◌, Bool, true, false, cond, ◌&&◌, ◌⊎◌, List, map, length, ℤ, pos, negsuc, Some, None, Ok, Err, Option, Result, ◌≢◌, nat_lt, slice_index_or, refl}
+use Rattle.std.proofs.Common.{sym, ap, subst, ◌∙◌, inl, inr, div-lt_iff_lt-mul, mul_comm, add-one, arith}
 use Rattle.std.proofs.Math.Nat.{div-le_of_le-mul}
-use Rattle.std.specs.Int.Signed.{shr_z}
 use Rattle.std.specs.List.{range_with_len}
 use Rattle.std.specs.Int.{int_div_euclid}
 use Rattle.std.proofs.lemmas.List.FromFn.{length-map-range_with_len, get_or-map-range_with_len}
 use Rattle.std.proofs.lemmas.List.{get_or_past}
 use Rattle.std.proofs.lemmas.Int.{ints}
-use Rattle.std.proofs.lemmas.Bool.{lt-ltb, le-ltb, ltb-true, ltb-false, cases_lt}
+use Rattle.std.proofs.lemmas.Bool.{lt-ltb, le-ltb, ltb-true, cases_lt}
 use Rattle.hours.specs.Bounds.{Within}
 use Rattle.hours.specs.declared.fault.Fault.{Fault}
 use Rattle.hours.specs.declared.period.Slot.{Slot}
 use Rattle.hours.specs.declared.fault.Cause.TheVariants.{LackingYear}
 use Rattle.hours.specs.Faults.{unlawful_question, unknown_location, lacking_year, past_count}
 use Rattle.hours.specs.Periods.{lawful_slot, past_year}
-use Rattle.hours.specs.Questions.{present, hour_of, year_of, priced}
+use Rattle.hours.specs.Questions.{present, hour_of, priced}
 use Rattle.hours.specs.StandIns.{mean_down, plus_price, plus_one, sum_at, having, mean_at, stand_in, or_stand_in, proxied, plus_answer, plus_answered, sum_of, number_of}
 use Rattle.hours.specs.LawfulRows.{not_none}
 use Rattle.hours.specs.Years.{asked_well, hour_below, hour_past}

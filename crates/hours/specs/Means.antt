@@ -1,5 +1,5 @@
 -- Average hours: rows of counts, and rows of one mean price for every hour of a location's year.
-use Rattle.std.specs.Prelude.{ℕ, ◌+◌, Bool, true, false, cond, not, ◌&&◌, ◌||◌, List, [], ◌∷◌, ◌++◌, length, replicate, ℤ, is_some, Some, None, Option, ◌==◌, nat_le, nat_lt}
+use Rattle.std.specs.Prelude.{ℕ, ◌+◌, Bool, cond, not, ◌&&◌, ◌||◌, List, [], ◌∷◌, ◌++◌, length, replicate, ℤ, is_some, Some, None, Option, ◌==◌, nat_le, nat_lt}
 use Rattle.hours.specs.declared.period.Slot.{Slot}
 use Rattle.hours.specs.declared.rows.CountRow.{CountRow}
 use Rattle.hours.specs.declared.rows.MeanRow.{MeanRow}

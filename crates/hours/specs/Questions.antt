@@ -1,5 +1,5 @@
 -- What a source answers, by what it means: `count` gives the hours of a slot in a year, `prices` the prices of a location, slot and year, or none.
-use Rattle.std.specs.Prelude.{ℕ, Bool, cond, ◌&&◌, List, ◌++◌, length, drop, ℤ, pos, Some, None, Ok, Err, Option, Result, nat_lt, slice_index_or}
+use Rattle.std.specs.Prelude.{ℕ, cond, ◌&&◌, List, ◌++◌, length, drop, ℤ, pos, Some, None, Ok, Err, Option, Result, nat_lt, slice_index_or}
 use Rattle.hours.specs.declared.fault.Fault.{Fault}
 use Rattle.hours.specs.declared.period.Slot.{Slot}
 use Rattle.hours.specs.Faults.{unlawful_question, unknown_location, lacking_year, past_count}

@@ -1,5 +1,5 @@
 -- The proxy: what stands in for a year that a location lacks.
-use Rattle.std.specs.Prelude.{ℕ, zero, suc, ◌+◌, Bool, cond, List, [], ◌∷◌, map, ℤ, pos, ◌+ℤ◌, Some, None, Ok, Err, Option, Result, nat_lt, slice_index_or}
+use Rattle.std.specs.Prelude.{ℕ, zero, suc, ◌+◌, cond, List, [], ◌∷◌, map, ℤ, pos, ◌+ℤ◌, Some, None, Ok, Err, Option, Result, nat_lt, slice_index_or}
 use Rattle.std.specs.Int.Signed.{shr_z}
 use Rattle.std.specs.List.{range_with_len}
 use Rattle.hours.specs.declared.fault.Fault.{Fault}

@@ -1,9 +1,8 @@
 -- What the laws of a source give for a year that is there, and a year written hour by hour.
 use Rattle.std.specs.Prelude.{◌≡◌, ℕ, ◌+◌, ◌<◌, ◌≤◌, Bool, true, false, cond, ◌&&◌, List, [], ◌∷◌, ◌++◌, length, get_or, take, drop, set, ℤ, pos, Some, None, Ok, Err, Option, Result, nat_lt, slice_index_or, slice_set, refl}
 use Rattle.std.proofs.Common.{sym, ap, subst, ◌∙◌, arith}
-use Rattle.std.proofs.lemmas.List.{set_at, take_more, drop_more, append_assoc, length-take-le, take_all}
+use Rattle.std.proofs.lemmas.List.{set_at, take_more, drop_more, append_assoc, length-take-le}
 use Rattle.std.proofs.lemmas.Bool.{and_parts, ltb-true, leb-true, le-leb, lt-ltb, le-ltb}
-use Rattle.std.proofs.lemmas.Bool.Decides.{nat_tests}
 use Rattle.hours.specs.declared.fault.Fault.{Fault}
 use Rattle.hours.specs.declared.period.Slot.{Slot}
 use Rattle.hours.specs.Faults.{unlawful_question, unknown_location, lacking_year, past_count}

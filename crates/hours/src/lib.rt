@@ -3,6 +3,7 @@
 //!
 //! `source` has the interface; `average`, `recorded` and `proxy` are the sources that ship.
 #![tactic(auto)]
+
 mod average;
 mod average_hours;
 mod fault;

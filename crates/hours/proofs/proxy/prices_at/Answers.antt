@@ -1,4 +1,4 @@
-use Rattle.std.proofs.Common.{ℕ, ℤ, Ok, Err, Result, sym, ◌∙◌, arith}
+use Rattle.std.proofs.Common.{ℕ, ℤ, Ok, Err, Result, arith}
 use Rattle.std.proofs.lemmas.Int.{ints}
 use Rattle.hours.specs.declared.fault.Fault.{Fault}
 use Rattle.hours.specs.Questions.{priced}

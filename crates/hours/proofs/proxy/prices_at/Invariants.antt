@@ -1,5 +1,4 @@
-use Rattle.std.proofs.Common.{◌≡◌, ℕ, ◌*◌, ◌≤◌, ℤ, pos, neg_ℤ, ◌≤ℤ◌, Result}
-use Rattle.hours.specs.declared.fault.Fault.{Fault}
+use Rattle.std.proofs.Common.{◌≡◌, ◌*◌, ◌≤◌, pos, neg_ℤ, ◌≤ℤ◌}
 use Rattle.hours.specs.Questions.{priced}
 use Rattle.hours.specs.StandIns.{sum_of, number_of}
 use Rattle.hours.proofs.proxy.prices_at.Given as goal

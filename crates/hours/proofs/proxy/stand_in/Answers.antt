@@ -1,4 +1,4 @@
-use Rattle.std.proofs.Common.{◌≡◌, ℕ, ◌*◌, ◌<◌, ◌≤◌, Bool, true, cond, ltb, List, length, ℤ, Some, None, Ok, Err, Option, sym, refl, ap, ◌∙◌, subst, arith, w32, w64, to_z, of_z}
+use Rattle.std.proofs.Common.{◌≡◌, ℕ, ◌*◌, ◌<◌, ◌≤◌, true, cond, ltb, List, length, ℤ, Some, None, Ok, Err, Option, sym, ap, ◌∙◌, subst, arith, w32, w64, to_z, of_z}
 use Rattle.std.proofs.lemmas.Int.{ints}
 use Rattle.std.proofs.lemmas.Bool.Decides.{nat_tests}
 use Rattle.hours.specs.declared.period.Slot.{Slot}
@@ -51,21 +51,21 @@ found g below s y hour asked count sum number lawful past counts e total many =
 pub returns-then-number-eq0 : goal.returns-then-number-eq0
 returns-then-number-eq0 g c =
     let below = c.args.below.now in
-    let f = found g below c.args.slot c.args.year c.args.hour c.hour-or-first.result c.in-ok-count.count c.prices-at-sum.result.0 c.prices-at-sum.result.1
-    c.requires.lawful c.requires.past c.in-ok-count.ensures c.hour-or-first.ensures c.prices-at-sum.ensures.sum c.prices-at-sum.ensures.number in
-    ap Err c.lacking-year.ensures
+    let f = found g below c.args.slot c.args.year c.args.hour c.hour_or_first.result c.in_ok-count.count c.prices_at-sum.result.0 c.prices_at-sum.result.1
+    c.requires.lawful c.requires.past c.in_ok-count.ensures c.hour_or_first.ensures c.prices_at-sum.ensures.sum c.prices_at-sum.ensures.number in
+    ap Err c.lacking_year.ensures
     ∙ sym (stand_in_none (years g below c.args.slot c.args.year) g.S.HourSource.locations (g.S.HourSource.hours below c.args.slot c.args.year) c.args.location c.args.year c.args.hour (sym f.number_is ∙ c.if-number-eq0.true))
 
 pub returns-then-hour-count : goal.returns-then-hour-count
 returns-then-hour-count g c =
     let below = c.args.below.now in
-    let f = found g below c.args.slot c.args.year c.args.hour c.hour-or-first.result c.in-ok-count.count c.prices-at-sum.result.0 c.prices-at-sum.result.1
-    c.requires.lawful c.requires.past c.in-ok-count.ensures c.hour-or-first.ensures c.prices-at-sum.ensures.sum c.prices-at-sum.ensures.number in
+    let f = found g below c.args.slot c.args.year c.args.hour c.hour_or_first.result c.in_ok-count.count c.prices_at-sum.result.0 c.prices_at-sum.result.1
+    c.requires.lawful c.requires.past c.in_ok-count.ensures c.hour_or_first.ensures c.prices_at-sum.ensures.sum c.prices_at-sum.ensures.number in
     let number = f.number_is in
-    let count = f.count-is in
+    let count = f.count_is in
     let some = c.if-number-eq0.false in
     let over = c.if-hour-count.true in
-    ap Err c.past-count.ensures
+    ap Err c.past_count.ensures
     ∙ sym (stand_in_past (years g below c.args.slot c.args.year) g.S.HourSource.locations (g.S.HourSource.hours below c.args.slot c.args.year) c.args.location c.args.year c.args.hour (omega arith) (omega arith))
 
 -- the sum and the number that the mean is made of
@@ -77,12 +77,12 @@ sums g below s y asked sum number total many =
     let most = g.met.S.HourSource.fewLocations in
     (omega arith, subst (λ (n : ℕ). Within (200000 * n) sum) (sym many) (subst (Within (200000 * having (years g below s y) g.S.HourSource.locations)) (sym total) w))
 
-pub mean-down-requires : goal.mean-down-requires
-mean-down-requires g c =
+pub mean_down-requires : goal.mean_down-requires
+mean_down-requires g c =
     let below = c.args.below.now in
-    let f = found g below c.args.slot c.args.year c.args.hour c.hour-or-first.result c.in-ok-count.count c.prices-at-sum.result.0 c.prices-at-sum.result.1
-    c.requires.lawful c.requires.past c.in-ok-count.ensures c.hour-or-first.ensures c.prices-at-sum.ensures.sum c.prices-at-sum.ensures.number in
-    let t = sums g below c.args.slot c.args.year c.hour-or-first.result c.prices-at-sum.result.0 c.prices-at-sum.result.1 f.sum_is f.number_is in
+    let f = found g below c.args.slot c.args.year c.args.hour c.hour_or_first.result c.in_ok-count.count c.prices_at-sum.result.0 c.prices_at-sum.result.1
+    c.requires.lawful c.requires.past c.in_ok-count.ensures c.hour_or_first.ensures c.prices_at-sum.ensures.sum c.prices_at-sum.ensures.number in
+    let t = sums g below c.args.slot c.args.year c.hour_or_first.result c.prices_at-sum.result.0 c.prices_at-sum.result.1 f.sum_is f.number_is in
     let some = c.if-number-eq0.false in
     let few = t.0 in
     let low = t.1.0 in
@@ -92,22 +92,22 @@ mean-down-requires g c =
 pub returns : goal.returns
 returns g c =
     let below = c.args.below.now in
-    let f = found g below c.args.slot c.args.year c.args.hour c.hour-or-first.result c.in-ok-count.count c.prices-at-sum.result.0 c.prices-at-sum.result.1
-    c.requires.lawful c.requires.past c.in-ok-count.ensures c.hour-or-first.ensures c.prices-at-sum.ensures.sum c.prices-at-sum.ensures.number in
-    let t = sums g below c.args.slot c.args.year c.hour-or-first.result c.prices-at-sum.result.0 c.prices-at-sum.result.1 f.sum_is f.number_is in
+    let f = found g below c.args.slot c.args.year c.args.hour c.hour_or_first.result c.in_ok-count.count c.prices_at-sum.result.0 c.prices_at-sum.result.1
+    c.requires.lawful c.requires.past c.in_ok-count.ensures c.hour_or_first.ensures c.prices_at-sum.ensures.sum c.prices_at-sum.ensures.number in
+    let t = sums g below c.args.slot c.args.year c.hour_or_first.result c.prices_at-sum.result.0 c.prices_at-sum.result.1 f.sum_is f.number_is in
     let number = f.number_is in
-    let count = f.count-is in
+    let count = f.count_is in
     let some = c.if-number-eq0.false in
     let under = c.if-hour-count.false in
-    let same : c.hour-or-first.result ≡ c.args.hour = let q = c.hour-or-first.ensures in grind (arith, nat_tests) in
+    let same : c.hour_or_first.result ≡ c.args.hour = let q = c.hour_or_first.ensures in grind (arith, nat_tests) in
     let low = t.1.0 in
     let high = t.1.1 in
     let few = t.0 in
-    let sum : to_z w64 (of_z w64 c.prices-at-sum.result.0) ≡ c.prices-at-sum.result.0 = omega (arith, ints) in
+    let sum : to_z w64 (of_z w64 c.prices_at-sum.result.0) ≡ c.prices_at-sum.result.0 = omega (arith, ints) in
     let y : ℕ → Option (List ℤ) = years g below c.args.slot c.args.year in
-    let fits = c.mean-down.type-inv in
-    let back : to_z w32 (of_z w32 c.mean-down.result) ≡ c.mean-down.result = omega (arith, ints) in
-    ap Ok (back ∙ c.mean-down.ensures
-    ∙ ap (λ (z : ℤ). mean_down z c.prices-at-sum.result.1) (sum ∙ f.sum_is ∙ ap (λ (h : ℕ). sum_at y h g.S.HourSource.locations) same)
+    let fits = c.mean_down.type_inv in
+    let back : to_z w32 (of_z w32 c.mean_down.result) ≡ c.mean_down.result = omega (arith, ints) in
+    ap Ok (back ∙ c.mean_down.ensures
+    ∙ ap (λ (z : ℤ). mean_down z c.prices_at-sum.result.1) (sum ∙ f.sum_is ∙ ap (λ (h : ℕ). sum_at y h g.S.HourSource.locations) same)
     ∙ ap (mean_down (sum_at y c.args.hour g.S.HourSource.locations)) number)
     ∙ sym (stand_in_below (years g below c.args.slot c.args.year) g.S.HourSource.locations (g.S.HourSource.hours below c.args.slot c.args.year) c.args.location c.args.year c.args.hour (omega arith) (omega arith))

@@ -1,14 +1,14 @@
-use Rattle.std.proofs.Common.{ap, ◌∙◌, arith}
+use Rattle.std.proofs.Common.{◌∙◌}
 use native.Mathlib.Numerals.{unary_clauses}
 use Rattle.hours.specs.Means.{count_at_fault}
 use Rattle.hours.proofs.Faulty.{fault_here, fault_on, fault_none}
 use Rattle.hours.proofs.rows.first_count_at_fault.Goals as goal
 
-pub returns-then-is-count-at-fault : goal.returns-then-is-count-at-fault
-returns-then-is-count-at-fault c = fault_here count_at_fault c.args.rows.now c.loop-i.i _ c.loop-i-test.true (simp unary_clauses at c.if-is-count-at-fault.ensures) ∙ c.loop-i.invariant
+pub returns-then-is_count_at_fault : goal.returns-then-is_count_at_fault
+returns-then-is_count_at_fault c = fault_here count_at_fault c.args.rows.now c.loop-i.i _ c.loop-i-test.true (simp unary_clauses at c.if-is_count_at_fault.ensures) ∙ c.loop-i.invariant
 
 pub loop-i-preserved : goal.loop-i-preserved
-loop-i-preserved c = fault_on count_at_fault c.args.rows.now c.loop-i.i _ c.loop-i-test.true (simp unary_clauses at c.if-is-count-at-fault.ensures) ∙ c.loop-i.invariant
+loop-i-preserved c = fault_on count_at_fault c.args.rows.now c.loop-i.i _ c.loop-i-test.true (simp unary_clauses at c.if-is_count_at_fault.ensures) ∙ c.loop-i.invariant
 
 pub returns : goal.returns
 returns c = fault_none count_at_fault c.args.rows.now c.loop-i.i c.loop-i-test.false ∙ c.loop-i.invariant

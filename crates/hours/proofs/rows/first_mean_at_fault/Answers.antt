@@ -1,14 +1,14 @@
-use Rattle.std.proofs.Common.{ap, ◌∙◌, arith}
+use Rattle.std.proofs.Common.{◌∙◌, arith}
 use native.Mathlib.Numerals.{unary_clauses}
 use Rattle.hours.specs.Means.{mean_at_fault}
 use Rattle.hours.proofs.Faulty.{fault_here, fault_on, fault_none}
 use Rattle.hours.proofs.rows.first_mean_at_fault.Goals as goal
 
-pub returns-then-is-mean-at-fault : goal.returns-then-is-mean-at-fault
-returns-then-is-mean-at-fault c = record { value = fault_here (mean_at_fault c.args.counts.now) c.args.rows.now c.loop-i.i _ c.loop-i-test.true (simp unary_clauses at c.if-is-mean-at-fault.ensures) ∙ c.loop-i.invariant; few = omega arith }
+pub returns-then-is_mean_at_fault : goal.returns-then-is_mean_at_fault
+returns-then-is_mean_at_fault c = record { value = fault_here (mean_at_fault c.args.counts.now) c.args.rows.now c.loop-i.i _ c.loop-i-test.true (simp unary_clauses at c.if-is_mean_at_fault.ensures) ∙ c.loop-i.invariant; few = omega arith }
 
 pub loop-i-preserved : goal.loop-i-preserved
-loop-i-preserved c = fault_on (mean_at_fault c.args.counts.now) c.args.rows.now c.loop-i.i _ c.loop-i-test.true (simp unary_clauses at c.if-is-mean-at-fault.ensures) ∙ c.loop-i.invariant
+loop-i-preserved c = fault_on (mean_at_fault c.args.counts.now) c.args.rows.now c.loop-i.i _ c.loop-i-test.true (simp unary_clauses at c.if-is_mean_at_fault.ensures) ∙ c.loop-i.invariant
 
 pub returns : goal.returns
 returns c = record { value = fault_none (mean_at_fault c.args.counts.now) c.args.rows.now c.loop-i.i c.loop-i-test.false ∙ c.loop-i.invariant; few = tt }

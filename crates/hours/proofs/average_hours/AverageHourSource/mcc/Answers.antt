@@ -1,4 +1,4 @@
-use Rattle.std.proofs.Common.{◌≡◌, ℕ, List, Some, Ok, Err, vec_items, sym, ap, ◌∙◌, arith}
+use Rattle.std.proofs.Common.{◌≡◌, List, Ok, Err, vec_items, sym, ap, ◌∙◌, arith}
 use Rattle.std.proofs.lemmas.Int.{ints}
 use Rattle.hours.specs.declared.rows.CountRow.{CountRow}
 use Rattle.hours.specs.declared.rows.MeanRow.{MeanRow}
@@ -6,34 +6,34 @@ use Rattle.hours.specs.Means.{mean_of, rows_count}
 use Rattle.hours.specs.LawfulRows.{mean_facts, mean_below, mean_past}
 use Rattle.hours.proofs.average_hours.AverageHourSource.mcc.Goals as goal
 
-pub returns-then-from-count-in : goal.returns-then-from-count-in
-returns-then-from-count-in c =
+pub returns-then-from-count_in : goal.returns-then-from-count_in
+returns-then-from-count_in c =
     let self = c.args.self.now in
-    let m = ap (λ (rows : List MeanRow). mean_of rows c.args.location c.args.slot c.args.year) (sym c.as-slice.ensures.value) ∙ sym c.in-Some.ensures in
-    let n : c.count-in.result ≡ rows_count (vec_items self.counts) c.args.slot c.args.year =
-    c.count-in.ensures ∙ ap (λ (rows : List CountRow). rows_count rows c.args.slot c.args.year) c.as-slice-in-Some.ensures.value in
-    ap Err c.past-count.ensures
+    let m = ap (λ (rows : List MeanRow). mean_of rows c.args.location c.args.slot c.args.year) (sym c.as_slice.ensures.value) ∙ sym c.in-Some.ensures in
+    let n : c.count_in.result ≡ rows_count (vec_items self.counts) c.args.slot c.args.year =
+    c.count_in.ensures ∙ ap (λ (rows : List CountRow). rows_count rows c.args.slot c.args.year) c.as_slice-in-Some.ensures.value in
+    ap Err c.past_count.ensures
     ∙ sym (mean_past (vec_items self.counts) (vec_items self.means) c.args.location c.args.slot c.args.year c.args.hour c.in-Some.row
-    c.if-not-is-lawful-slot.ensures c.if-not-is-past-year.ensures c.if-location-ge-LOCATIONS.false m (omega arith))
+    c.if-not-is_lawful_slot.ensures c.if-not-is_past_year.ensures c.if-location-ge-LOCATIONS.false m (omega arith))
 
-pub overflow-cast-result : goal.overflow-cast-result
-overflow-cast-result c =
+pub overflow_cast-result : goal.overflow_cast-result
+overflow_cast-result c =
     let self = c.args.self.now in
-    let m = ap (λ (rows : List MeanRow). mean_of rows c.args.location c.args.slot c.args.year) (sym c.as-slice.ensures.value) ∙ sym c.in-Some.ensures in
+    let m = ap (λ (rows : List MeanRow). mean_of rows c.args.location c.args.slot c.args.year) (sym c.as_slice.ensures.value) ∙ sym c.in-Some.ensures in
     let f = (mean_facts (vec_items self.counts) (vec_items self.means) self.lawful c.args.location c.args.slot c.args.year c.in-Some.row m).0 in
     let low = f.0 in
     let high = f.1 in
     omega (arith, ints)
 
-pub returns-else-from-count-in : goal.returns-else-from-count-in
-returns-else-from-count-in c =
+pub returns-else-from-count_in : goal.returns-else-from-count_in
+returns-else-from-count_in c =
     let self = c.args.self.now in
-    let m = ap (λ (rows : List MeanRow). mean_of rows c.args.location c.args.slot c.args.year) (sym c.as-slice.ensures.value) ∙ sym c.in-Some.ensures in
+    let m = ap (λ (rows : List MeanRow). mean_of rows c.args.location c.args.slot c.args.year) (sym c.as_slice.ensures.value) ∙ sym c.in-Some.ensures in
     let f = (mean_facts (vec_items self.counts) (vec_items self.means) self.lawful c.args.location c.args.slot c.args.year c.in-Some.row m).0 in
     let low = f.0 in
     let high = f.1 in
-    let n : c.count-in.result ≡ rows_count (vec_items self.counts) c.args.slot c.args.year =
-    c.count-in.ensures ∙ ap (λ (rows : List CountRow). rows_count rows c.args.slot c.args.year) c.as-slice-in-Some.ensures.value in
+    let n : c.count_in.result ≡ rows_count (vec_items self.counts) c.args.slot c.args.year =
+    c.count_in.ensures ∙ ap (λ (rows : List CountRow). rows_count rows c.args.slot c.args.year) c.as_slice-in-Some.ensures.value in
     ap Ok (omega (arith, ints))
     ∙ sym (mean_below (vec_items self.counts) (vec_items self.means) c.args.location c.args.slot c.args.year c.args.hour c.in-Some.row
-    c.if-not-is-lawful-slot.ensures c.if-not-is-past-year.ensures c.if-location-ge-LOCATIONS.false m (omega arith))
+    c.if-not-is_lawful_slot.ensures c.if-not-is_past_year.ensures c.if-location-ge-LOCATIONS.false m (omega arith))

@@ -1,7 +1,7 @@
-use Rattle.std.proofs.Common.{◌≡◌, ℕ, ◌<◌, List, ◌++◌, length, get_or, take, drop, ℤ, pos, Ok, Err, Result, sym, refl, ap, ◌∙◌, arith, w32, to_z, of_z, rules}
+use Rattle.std.proofs.Common.{◌≡◌, ℕ, ◌<◌, List, ◌++◌, length, get_or, drop, ℤ, pos, Ok, Err, Result, sym, ap, ◌∙◌, arith, rules}
 use Rattle.std.proofs.lemmas.List.{take_all}
 use Rattle.std.proofs.lemmas.Result.{err_from_is_err_and}
-use Rattle.std.proofs.lemmas.Int.{to_z-of_z, ints}
+use Rattle.std.proofs.lemmas.Int.{ints}
 use Rattle.hours.specs.declared.fault.Fault.{Fault}
 use Rattle.hours.specs.declared.period.Slot.{Slot}
 use Rattle.hours.specs.Questions.{counted, year_of, how_many, written}
@@ -24,22 +24,22 @@ facts g self l s y zs e =
 priced_small : (g : given.Over) (self : g.row.Self.Denot) (l : ℕ) (s : Slot) (y : ℕ) (zs : List ℤ) (h : ℕ) → year g self l s y ≡ Ok zs → Within 200000 (get_or zs h (pos 0))
 priced_small g self l s y zs h e = g.met.Self.HourSource.smallPrices self l s y zs h (asked g.Self.HourSource.locations (g.Self.HourSource.prices self) l s y zs e).there
 
-pub returns-in-err--first : goal.returns-in-err--first
-returns-in-err--first g c =
-    let p = err_from_is_err_and c.from-residual.result c.from-residual.ensures.1 in
+pub returns-in_err-_first : goal.returns-in_err-_first
+returns-in_err-_first g c =
+    let p = err_from_is_err_and c.from_residual.result c.from_residual.ensures.1 in
     let y : Result (List ℤ) Fault = year g c.args.self.now c.args.location c.args.slot c.args.year in
-    let e : y ≡ Err c.in-err--first.field-0.0 =
-    first_fault y c.args.location c.args.year c.in-err--first.field-0.0
+    let e : y ≡ Err c.in_err-_first.field-0.0 =
+    first_fault y c.args.location c.args.year c.in_err-_first.field-0.0
     (λ zs there. let f = facts g c.args.self.now c.args.location c.args.slot c.args.year zs there in let a = f.0 in let b = f.1 in omega arith)
-    c.in-err--first.ensures in
+    c.in_err-_first.ensures in
     record { answer = p.1 ∙ ap Err p.2 ∙ sym (ap how_many e); after = sym (ap (λ (r : Result (List ℤ) Fault). written r c.args.buffer.now) e) }
 
-pub returns-in-err-n : goal.returns-in-err-n
-returns-in-err-n g c =
+pub returns-in_err-n : goal.returns-in_err-n
+returns-in_err-n g c =
     let y : Result (List ℤ) Fault = year g c.args.self.now c.args.location c.args.slot c.args.year in
-    let h = hour_there y c.args.location c.args.year 0 c.in-ok--first.-first c.in-ok--first.ensures in
+    let h = hour_there y c.args.location c.args.year 0 c.in_ok-_first._first c.in_ok-_first.ensures in
     let f = facts g c.args.self.now c.args.location c.args.slot c.args.year h.0 h.1 in
-    clash (g.Self.HourSource.hours c.args.self.now c.args.slot c.args.year) c.in-err-n.field-0.0 (sym f.2 ∙ sym c.in-err-n.ensures)
+    clash (g.Self.HourSource.hours c.args.self.now c.args.slot c.args.year) c.in_err-n.field-0.0 (sym f.2 ∙ sym c.in_err-n.ensures)
 
 pub bounds-buffer-hour : goal.bounds-buffer-hour
 bounds-buffer-hour g c =
@@ -67,17 +67,17 @@ loop-hour-preserved g c zs there =
           let room : length c.args.buffer.now ≡ 9000 = search rules in
           let below = h.0 in
           w.buffer-is ∙ one_more zs c.args.buffer.now c.loop-hour.buffer c.loop-hour.hour _ h.0 (omega arith) (c.loop-hour.invariant zs there) (omega (arith, ints))
-      | in-Err w ↦ no_fault y zs c.args.location c.args.year c.loop-hour.hour _ there (let q = c.in-ok-n.ensures in let r = f.2 in let n : c.in-ok-n.n ≡ length zs = cc in omega arith) w.in-Err.ensures
+      | in-Err w ↦ no_fault y zs c.args.location c.args.year c.loop-hour.hour _ there (let q = c.in_ok-n.ensures in let r = f.2 in let n : c.in_ok-n.n ≡ length zs = cc in omega arith) w.in-Err.ensures
     ]
 
 pub returns : goal.returns
 returns g c =
     let y : Result (List ℤ) Fault = year g c.args.self.now c.args.location c.args.slot c.args.year in
-    let h = hour_there y c.args.location c.args.year 0 c.in-ok--first.-first c.in-ok--first.ensures in
+    let h = hour_there y c.args.location c.args.year 0 c.in_ok-_first._first c.in_ok-_first.ensures in
     let f = facts g c.args.self.now c.args.location c.args.slot c.args.year h.0 h.1 in
-    let q = c.in-ok-n.ensures in
+    let q = c.in_ok-n.ensures in
     let r = f.2 in
-    let n : c.in-ok-n.n ≡ g.Self.HourSource.hours c.args.self.now c.args.slot c.args.year = cc in
+    let n : c.in_ok-n.n ≡ g.Self.HourSource.hours c.args.self.now c.args.slot c.args.year = cc in
     let i = c.loop-hour.invariant h.0 h.1 in
     let long = f.0 in
     let last = c.loop-hour-test.false in

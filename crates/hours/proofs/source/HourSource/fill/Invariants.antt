@@ -1,4 +1,4 @@
-use Rattle.std.proofs.Common.{◌≡◌, List, ◌++◌, length, take, drop, ℤ, Ok, Result}
+use Rattle.std.proofs.Common.{◌≡◌, List, ◌++◌, take, drop, ℤ, Ok}
 use Rattle.hours.specs.Questions.{year_of}
 use Rattle.hours.proofs.source.HourSource.fill.Given as goal
 

@@ -12,10 +12,10 @@ unfolding recorded_hours recorded_prices
 returns-then-span-hour c =
     let xs = vec_items c.args.self.now.numbers in
     let year = year_of 64 (prices_in (records_of xs)) c.args.location c.args.slot c.args.year in
-    let e = c.in-ok-span.ensures in
-    let span = c.in-ok-span.span in
+    let e = c.in_ok-span.ensures in
+    let span = c.in_ok-span.span in
     let within : span.start + span.hours ≤ length xs = subst (λ (n : ℕ). span.start + span.hours ≤ n) c.args.self.now.numbers.ok.0 e.within.0 in
-    ap Err c.past-count.ensures
+    ap Err c.past_count.ensures
     ∙ past_answered xs span.start span.hours c.args.hour c.args.location c.args.year year within e.prices c.if-span-hour.true
 
 pub returns : goal.returns
@@ -23,8 +23,8 @@ unfolding recorded_hours recorded_prices
 returns c =
     let xs = vec_items c.args.self.now.numbers in
     let year = year_of 64 (prices_in (records_of xs)) c.args.location c.args.slot c.args.year in
-    let e = c.in-ok-span.ensures in
-    let span = c.in-ok-span.span in
+    let e = c.in_ok-span.ensures in
+    let span = c.in_ok-span.span in
     let hour = c.args.hour in
     let within : span.start + span.hours ≤ length xs = subst (λ (n : ℕ). span.start + span.hours ≤ n) c.args.self.now.numbers.ok.0 e.within.0 in
     let below : hour < span.hours = c.if-span-hour.false in
@@ -33,6 +33,6 @@ returns c =
     ap Ok (to_z-of_z w32 c.index.result.now f ∙ get_or_read xs (span.start + hour) c.index.result.now inside c.index.ensures (pos 0))
     ∙ hour_answered xs span.start span.hours hour c.args.location c.args.year year within e.prices below
 
-pub returns-in-err-span : goal.returns-in-err-span
+pub returns-in_err-span : goal.returns-in_err-span
 unfolding recorded_hours recorded_prices
-returns-in-err-span c = search rules
+returns-in_err-span c = search rules
