@@ -5,7 +5,7 @@ use Rattle.std.specs.List.{flat_map}
 use Rattle.text.specs.declared.pieces.Stop.TheVariants.{Line, Blank}
 use Rattle.text.specs.Laws.{of_word, WordsAreAll}
 use Rattle.text.specs.Pieces.{stops, split, onto}
-use Rattle.text.specs.Words.{Word, word_at, words_from, line_words, lines_words}
+use Rattle.text.specs.Words.{Word, words_from, line_words, lines_words}
 
 abbrev whole : List (List ℕ) → List ℕ
 whole ls = flat_map (λ l. l) ls

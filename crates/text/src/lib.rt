@@ -1,6 +1,7 @@
 //! The words and the numbers of a text, and where they stand in it.
 //! A text is bytes: nothing here asks that they are UTF-8.
 #![tactic(auto)]
+
 mod digits;
 mod laws;
 mod pieces;

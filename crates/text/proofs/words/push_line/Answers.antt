@@ -10,7 +10,7 @@ use Rattle.text.proofs.words.push_line.Goals as goal
 
 pub returns-in-Err : goal.returns-in-Err
 returns-in-Err c =
-    let h = simp sub-zero at c.in-ok-bad.ensures in
+    let h = simp sub-zero at c.in_ok-bad.ensures in
     sym (bad_word c.args.line c.words.column (vec_items c.words.numbers) _ c.words.rest.now c.run-end.result _ _ c.run-end.ensures.value c.in-Err.is h) ∙ c.words.invariant.0
 
 pub returns-then-end-rest : goal.returns-then-end-rest
@@ -18,8 +18,8 @@ returns-then-end-rest c =
     let n = c.run-end.result in
     let rest = c.words.rest.now in
     let e = cut_all (stops Blank) rest n c.run-end.ensures.value c.if-end-rest.true in
-    let p = part_read (vec_items c.words.numbers) _ (word_at c.args.line c.words.column (take (n - 0) rest)) [] _ _ c.in-default.is c.in-ok-bad.ensures in
-    let z = append-nil (vec_items c.push-word.new.numbers) in
+    let p = part_read (vec_items c.words.numbers) _ (word_at c.args.line c.words.column (take (n - 0) rest)) [] _ _ c.in_default.is c.in_ok-bad.ensures in
+    let z = append-nil (vec_items c.push_word.new.numbers) in
     grind arith
 
 pub words-preserved : goal.words-preserved
@@ -29,7 +29,7 @@ words-preserved c =
     let e = cut_more (stops Blank) 0 rest n c.run-end.ensures.value c.if-end-rest.false in
     let t = take_rest rest (n + 1) in
     let w = length-take-le n rest c.run-end.ensures.within in
-    let p = part_read (vec_items c.words.numbers) _ (word_at c.args.line c.words.column (take (n - 0) rest)) (words_from c.args.line (c.words.column + (length (take n rest) + 1)) (split (stops Blank) (drop (n + 1) rest))) _ _ c.in-default.is c.in-ok-bad.ensures in
+    let p = part_read (vec_items c.words.numbers) _ (word_at c.args.line c.words.column (take (n - 0) rest)) (words_from c.args.line (c.words.column + (length (take n rest) + 1)) (split (stops Blank) (drop (n + 1) rest))) _ _ c.in_default.is c.in_ok-bad.ensures in
     let d = ap length t in
     let l = length-drop (n + 1) rest in
     (grind arith, omega arith)
