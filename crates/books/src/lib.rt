@@ -2,6 +2,7 @@
 //!
 //! `book` has the interface; `posted`, `band` and `history` are the books that ship.
 #![tactic(auto)]
+
 mod band;
 mod book;
 mod difference;

@@ -14,7 +14,7 @@ difference-d-requires c =
     let h : i < length xs = omega arith in
     let k : i < length ys = omega arith in
     let here = next_is xs ys i h k c.loop-i.sources c.loop-i.invariant.0 in
-    record { sink = price_kept _ _ (c.requires.small-sinks i h) refl; source = price_kept _ _ (c.requires.small-sources i k) here }
+    record { sink = price_kept _ _ (c.requires.small_sinks i h) refl; source = price_kept _ _ (c.requires.small_sources i k) here }
 
 pub loop-i-preserved : goal.loop-i-preserved
 loop-i-preserved c =
@@ -24,8 +24,8 @@ loop-i-preserved c =
     let h : i < length xs = omega arith in
     let k : i < length ys = omega arith in
     let here = next_is xs ys i h k c.loop-i.sources c.loop-i.invariant.0 in
-    let a = c.requires.small-sinks i h in
-    let b = c.requires.small-sources i k in
+    let a = c.requires.small_sinks i h in
+    let b = c.requires.small_sources i k in
     let d = c.difference-d.result in
     let value = c.difference-d.ensures.value in
     let few : i < 9000 = omega arith in

@@ -22,7 +22,7 @@ both g self p s = path_years (year_of g.S.HourSource.locations (g.S.HourSource.p
 read : (g : given.Over) (self : g.row.S.Denot) (p : Path) (s : Slot) (first second : ℤ × ℕ) (recent distant : List ℤ) → ◌≡◌ {A = Result ((ℤ × ℕ) × (ℤ × ℕ)) Fault} (Ok (first, second)) (summed_years (both g self p s)) → LostIn (both g self p s) recent distant → Read (both g self p s) first second recent distant
 read g self p s first second recent distant answer after =
     let m = g.met.S.HourSource in
-    read_both (g.S.HourSource.hours self) g.S.HourSource.locations (g.S.HourSource.prices self) (record { few = m.fewHours self; whole = m.wholeYear self; empty = m.emptyYear self; small = m.smallPrices self }) p s first second recent distant answer after
+    read_both (g.S.HourSource.hours self) g.S.HourSource.locations (g.S.HourSource.prices self) (record { few = m.few_hours self; whole = m.whole_year self; empty = m.empty_year self; small = m.small_prices self }) p s first second recent distant answer after
 
 pub returns-in-err-first : goal.returns-in-err-first
 returns-in-err-first g c =
@@ -75,17 +75,17 @@ price-from-requires g c =
 
 pub returns : goal.returns
 returns g c =
-    let first = c.in-ok-first.first in
-    let second = c.in-ok-first.second in
-    let recent = c.read-path.new.recent in
-    let distant = c.read-path.new.distant in
-    let r = read g c.args.source.now c.args.path c.args.slot first second recent distant c.in-ok-first.ensures.answer c.in-ok-first.ensures.after in
+    let first = c.in_ok-first.first in
+    let second = c.in_ok-first.second in
+    let recent = c.read_path.new.recent in
+    let distant = c.read_path.new.distant in
+    let r = read g c.args.source.now c.args.path c.args.slot first second recent distant c.in_ok-first.ensures.answer c.in_ok-first.ensures.after in
     let h = c.args.ahead in
     let a : take (c.from.result - 0) recent ≡ take first.1 recent = ap (λ (n : ℕ). take n recent) (omega arith) in
     let b : take (c.from-2.result - 0) distant ≡ take second.1 distant = ap (λ (n : ℕ). take n distant) (omega arith) in
-    let z = to_z w64 (of_z w64 c.price-from.result) in
+    let z = to_z w64 (of_z w64 c.price_from.result) in
     let value : z ≡ price_from h first second (take first.1 recent ++ take second.1 distant) =
-    omega (arith, ints) ∙ c.price-from.ensures
+    omega (arith, ints) ∙ c.price_from.ensures
     ∙ ap (λ (xs : List ℤ). price_from h first second (xs ++ take (c.from-2.result - 0) distant)) a
     ∙ ap (λ (xs : List ℤ). price_from h first second (take first.1 recent ++ xs)) b in
     read_price_lem h (both g c.args.source.now c.args.path c.args.slot) first second recent distant z r value

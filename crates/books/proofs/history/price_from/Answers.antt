@@ -12,19 +12,19 @@ less-requires c =
     let e : to_z w64 (of_z w64 s) ≡ s = omega (arith, ints) in
     let t : c.times.result ≡ s *ℤ pos h = c.times.ensures ∙ ap (λ (z : ℤ). z *ℤ pos h) e in
     let w = within_times 400000 h s c.stress-hourly.ensures.small in
-    let m = c.mean-ahead.ensures.small in
+    let m = c.mean_ahead.ensures.small in
     record { mean = (omega (arith, ints), omega (arith, ints)); stress = (omega (arith, ints), omega (arith, ints)) }
 
 pub returns : goal.returns
 returns c =
     let recent = c.args.recent in
     let distant = c.args.distant in
-    let lost = c.args.recent-losses.now ++ c.args.distant-losses.now in
+    let lost = c.args.recent_losses.now ++ c.args.distant_losses.now in
     let h = c.args.ahead in
     let s = c.stress-hourly.result in
     let stress = stress_of (percentile_of (percent (numerator recent distant)) lost) in
     let a : to_z w64 (of_z w64 c.weighted.result) ≡ numerator recent distant = omega (arith, ints) ∙ c.weighted.ensures.value in
-    let p : c.percent-by-p.result ≡ percent (numerator recent distant) = c.percent-by-p.ensures ∙ ap percent a in
+    let p : c.percent_by-p.result ≡ percent (numerator recent distant) = c.percent_by-p.ensures ∙ ap percent a in
     let e : to_z w64 (of_z w64 s) ≡ stress = omega (arith, ints) ∙ c.stress-hourly.ensures.value ∙ ap (λ (n : ℕ). stress_of (percentile_of n lost)) p in
     let mean : to_z w64 (of_z w64 c.mean-ahead.result) ≡ mean_ahead h recent distant = omega (arith, ints) ∙ c.mean-ahead.ensures.value in
     let times : to_z w64 (of_z w64 c.times.result) ≡ stress *ℤ pos h = omega (arith, ints) ∙ c.times.ensures ∙ ap (λ (z : ℤ). z *ℤ pos h) e in

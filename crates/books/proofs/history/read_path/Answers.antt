@@ -20,7 +20,7 @@ year g self l s y = year_of g.S.HourSource.locations (g.S.HourSource.prices self
 known : (g : given.Over) (self : g.row.S.Denot) (l : ℕ) (s : Slot) (y : ℕ) (zs : List ℤ) → year g self l s y ≡ Ok zs → There (g.S.HourSource.hours self s y) zs
 known g self l s y zs e =
     let m = g.met.S.HourSource in
-    there (g.S.HourSource.hours self) g.S.HourSource.locations (g.S.HourSource.prices self) (record { few = m.fewHours self; whole = m.wholeYear self; empty = m.emptyYear self; small = m.smallPrices self }) l s y zs e
+    there (g.S.HourSource.hours self) g.S.HourSource.locations (g.S.HourSource.prices self) (record { few = m.few_hours self; whole = m.whole_year self; empty = m.empty_year self; small = m.small_prices self }) l s y zs e
 
 -- both years of the path
 abbrev both : (g : given.Over) → g.row.S.Denot → Path → Slot → Result (List ℤ × List ℤ) Fault
@@ -98,18 +98,18 @@ returns g c =
     let s = c.args.slot in
     let recent = c.fill.new.buffer in
     let distant = c.fill-2.new.buffer in
-    let a = filled_ok (year g self p.source s 0) _ c.in-ok-fill.ensures.answer in
-    let b = filled_ok (year g self p.source s 1) _ c.in-ok-fill-2.ensures.answer in
-    let d = gained_ok (year g self p.sink s 0) recent c.in-ok-first.first c.in-ok-first.ensures.answer in
+    let a = filled_ok (year g self p.source s 0) _ c.in_ok-fill.ensures.answer in
+    let b = filled_ok (year g self p.source s 1) _ c.in_ok-fill-2.ensures.answer in
+    let d = gained_ok (year g self p.sink s 0) recent c.in_ok-first.first c.in_ok-first.ensures.answer in
     let f = gained_ok (year g self p.sink s 1) distant c.in-ok-second.second c.in-ok-second.ensures.answer in
-    let h = front g self p s 0 a.0 d.0 _ recent a.1 d.1 c.in-ok-fill.ensures.after in
-    let k = front g self p s 1 b.0 f.0 _ distant b.1 f.1 c.in-ok-fill-2.ensures.after in
-    let first : c.in-ok-first.first ≡ summed (differences d.0 a.0) = d.2 ∙ ap (λ (xs : List ℤ). summed (differences d.0 xs)) h in
+    let h = front g self p s 0 a.0 d.0 _ recent a.1 d.1 c.in_ok-fill.ensures.after in
+    let k = front g self p s 1 b.0 f.0 _ distant b.1 f.1 c.in_ok-fill-2.ensures.after in
+    let first : c.in_ok-first.first ≡ summed (differences d.0 a.0) = d.2 ∙ ap (λ (xs : List ℤ). summed (differences d.0 xs)) h in
     let second : c.in-ok-second.second ≡ summed (differences f.0 b.0) = f.2 ∙ ap (λ (xs : List ℤ). summed (differences f.0 xs)) k in
     let e : both g self p s ≡ Ok (differences d.0 a.0, differences f.0 b.0) = all_there (years g self) p s a.0 b.0 d.0 f.0 a.1 b.1 d.1 f.1 in
     record {
       answer = ap (λ (y : ℤ × ℕ). Ok (y, c.in-ok-second.second)) first ∙ ap (λ (y : ℤ × ℕ). Ok (summed (differences d.0 a.0), y)) second ∙ sym (ap summed_years e);
       after = lost_both (both g self p s) (differences d.0 a.0) (differences f.0 b.0) c.year-between.new.prices c.year-between-2.new.prices e
-          (losses_at_front (year g self p.sink s 0) d.0 recent a.0 c.year-between.new.prices d.1 c.in-ok-first.ensures.after h)
+          (losses_at_front (year g self p.sink s 0) d.0 recent a.0 c.year-between.new.prices d.1 c.in_ok-first.ensures.after h)
           (losses_at_front (year g self p.sink s 1) f.0 distant b.0 c.year-between-2.new.prices f.1 c.in-ok-second.ensures.after k);
     }

@@ -9,7 +9,7 @@ use Rattle.books.proofs.history.year_between.Given as given
 use Rattle.books.proofs.history.year_between.Goals as goal
 
 laws : (g : given.Over) (self : g.row.S.Denot) → Laws (g.S.HourSource.hours self) (g.S.HourSource.prices self)
-laws g self = record { few = g.met.S.HourSource.fewHours self; whole = g.met.S.HourSource.wholeYear self; empty = g.met.S.HourSource.emptyYear self; small = g.met.S.HourSource.smallPrices self }
+laws g self = record { few = g.met.S.HourSource.few_hours self; whole = g.met.S.HourSource.whole_year self; empty = g.met.S.HourSource.empty_year self; small = g.met.S.HourSource.small_prices self }
 
 -- the year of the sink
 abbrev year : (g : given.Over) → g.row.S.Denot → ℕ → Slot → ℕ → Result (List ℤ) Fault
@@ -31,23 +31,23 @@ subtract-requires g c =
     let s = c.args.slot in
     let y = year g self c.args.sink s c.args.year in
     let known = there (g.S.HourSource.hours self) g.S.HourSource.locations (g.S.HourSource.prices self) (laws g self) c.args.sink s c.args.year in
-    let f = filled_ok y c.in-ok-n.n c.in-ok-n.ensures.answer in
+    let f = filled_ok y c.in_ok-n.n c.in_ok-n.ensures.answer in
     let k = known f.0 f.1 in
     let n = f.2 in
     record {
       few = omega arith;
-      small-sinks = subst (Small 200000) (sym c.in-ok-n.ensures.after) (small_written 200000 y _ (λ zs e. (known zs e).small) (small_zeros 200000 9000));
-      small-sources = c.requires;
+      small_sinks = subst (Small 200000) (sym c.in_ok-n.ensures.after) (small_written 200000 y _ (λ zs e. (known zs e).small) (small_zeros 200000 9000));
+      small_sources = c.requires;
     }
 
 pub returns : goal.returns
 returns g c =
     let y = year g c.args.source.now c.args.sink c.args.slot c.args.year in
     let prices = c.args.prices.now in
-    let n = c.in-ok-n.n in
-    let f = filled_ok y n c.in-ok-n.ensures.answer in
+    let n = c.in_ok-n.n in
+    let f = filled_ok y n c.in_ok-n.ensures.answer in
     let zs = f.0 in
-    let front = front_of y zs _ c.fill.new.buffer n f.1 c.in-ok-n.ensures.after f.2 in
+    let front = front_of y zs _ c.fill.new.buffer n f.1 c.in_ok-n.ensures.after f.2 in
     let same : differences (take n c.fill.new.buffer) (take n prices) ≡ differences zs (take (length zs) prices) =
     ap (λ (xs : List ℤ). differences xs (take n prices)) front ∙ ap (λ (k : ℕ). differences zs (take k prices)) f.2 in
     record {

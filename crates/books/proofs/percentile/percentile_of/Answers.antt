@@ -10,7 +10,7 @@ bisect-requires c =
     let first = c.args.first.now in
     let second = c.args.second.now in
     let both = length-append first second in
-    let r = rankable_parts c.args.p (first ++ second) (sym c.if-not-is-rankable.ensures) in
+    let r = rankable_parts c.args.p (first ++ second) (sym c.if-not-is_rankable.ensures) in
     let few = r.2 in
     record { some = omega (arith, c.if-first-second-eq0.false); few = omega arith; low = r.0; high = r.1 }
 
@@ -27,4 +27,4 @@ returns c =
     let r = c.bisect.result in
     let same : r ≡ to_z w32 (of_z w32 r) = omega (arith, ints) in
     let h = subst (λ (z : ℤ). Percentile c.args.p xs z) same c.bisect.ensures in
-    record { value = ranked_some c.args.p xs (to_z w32 (of_z w32 r)) (sym c.if-not-is-rankable.ensures) h; least = h }
+    record { value = ranked_some c.args.p xs (to_z w32 (of_z w32 r)) (sym c.if-not-is_rankable.ensures) h; least = h }

@@ -8,7 +8,7 @@ pub returns-then-is-at-fault : goal.returns-then-is-at-fault
 returns-then-is-at-fault c = fault_here row_at_fault c.args.rows.now c.loop-i.i _ c.loop-i-test.true (simp unary_clauses at c.if-is-at-fault.ensures) ∙ c.loop-i.invariant
 
 pub loop-i-preserved : goal.loop-i-preserved
-loop-i-preserved c = fault_on row_at_fault c.args.rows.now c.loop-i.i _ c.loop-i-test.true (simp unary_clauses at c.if-is-at-fault.ensures) ∙ c.loop-i.invariant
+loop-i-preserved c = fault_on row_at_fault c.args.rows.now c.loop-i.i _ c.loop-i-test.true (simp unary_clauses at c.if-is_at_fault.ensures) ∙ c.loop-i.invariant
 
 pub returns : goal.returns
 returns c = fault_none row_at_fault c.args.rows.now c.loop-i.i c.loop-i-test.false ∙ c.loop-i.invariant

@@ -8,7 +8,7 @@ pub returns-then-same-key : goal.returns-then-same-key
 returns-then-same-key c = first_here (λ (r : Row). same_key r.key c.args.key) c.args.rows.now c.loop-row.row-index _ c.loop-row-test.true c.if-same-key.ensures ∙ c.loop-row.invariant
 
 pub loop-row-preserved : goal.loop-row-preserved
-loop-row-preserved c = first_on (λ (r : Row). same_key r.key c.args.key) c.args.rows.now c.loop-row.row-index _ c.loop-row-test.true c.if-same-key.ensures ∙ c.loop-row.invariant
+loop-row-preserved c = first_on (λ (r : Row). same_key r.key c.args.key) c.args.rows.now c.loop-row.row-index _ c.loop-row-test.true c.if-same_key.ensures ∙ c.loop-row.invariant
 
 pub returns : goal.returns
 returns c = first_none (λ (r : Row). same_key r.key c.args.key) c.args.rows.now c.loop-row.row-index c.loop-row-test.false ∙ c.loop-row.invariant

@@ -17,7 +17,7 @@ returns-in-Some c =
     let v = c.in-Some.v in
     let least = c.in-Some.ensures.least in
     let found = percentile_value p (recent ++ distant) v least in
-    let near = percentile_within 400000 p (recent ++ distant) v least (small-append 400000 recent distant c.requires.small-recent c.requires.small-distant) in
+    let near = percentile_within 400000 p (recent ++ distant) v least (small-append 400000 recent distant c.requires.small_recent c.requires.small_distant) in
     let wide : to_z w64 (of_z w64 c.from.result) ≡ v = omega (arith, ints) in
     let same : to_z w64 (of_z w64 c.max.result) ≡ int_max v (pos 0) = omega (arith, ints) ∙ c.max.ensures.value ∙ ap (λ (z : ℤ). int_max z (pos 0)) wide in
     record { value = same ∙ sym (ap stress_of found); small = subst (λ (z : ℤ). Within 400000 z) (sym same) (max_within 400000 v near) }
