@@ -5,7 +5,7 @@ use Rattle.std.proofs.ByRecursion.{All-append, All-weaker, folded_min_z_bounds, 
 use Rattle.std.proofs.lemmas.Int.{ints}
 use Rattle.std.proofs.lemmas.Bool.{cases_lt, leb-false, leb-true}
 use Rattle.std.specs.Int.{int_min, int_max}
-use Rattle.std.specs.List.{AllByRecursion as All}
+use Rattle.std.specs.List.{AllByRecursion}
 use Rattle.books.specs.Percentiles.{at_most, Among, Percentile, Reaches, reached}
 
 -- one value
@@ -29,21 +29,21 @@ at_most_mono : (u v : ℤ) (xs : List ℤ) → u ≤ℤ v → at_most u xs ≤ a
 at_most_mono u v [] h = omega arith
 at_most_mono u v (x ∷ xs) h = omega (arith, one_mono u v x h, at_most_mono u v xs h)
 
-at_most_all : (v : ℤ) (xs : List ℤ) → All (λ x. x ≤ℤ v) xs → at_most v xs ≡ length xs
+at_most_all : (v : ℤ) (xs : List ℤ) → AllByRecursion (λ x. x ≤ℤ v) xs → at_most v xs ≡ length xs
 at_most_all v [] h = refl
 at_most_all v (x ∷ xs) h = omega (arith, one_yes v x h.0, at_most_all v xs h.1)
 
-at_most_none : (v : ℤ) (xs : List ℤ) → All (λ x. v <ℤ x) xs → at_most v xs ≡ 0
+at_most_none : (v : ℤ) (xs : List ℤ) → AllByRecursion (λ x. v <ℤ x) xs → at_most v xs ≡ 0
 at_most_none v [] h = refl
 at_most_none v (x ∷ xs) h = omega (arith, one_no v x h.0, at_most_none v xs h.1)
 
 -- a bound above all values reaches, and nothing below all values does
-pub top_reaches : (p : ℕ) (xs : List ℤ) (high : ℤ) → p ≤ 100 → All (λ x. x ≤ℤ high) xs → Reaches p xs high
+pub top_reaches : (p : ℕ) (xs : List ℤ) (high : ℤ) → p ≤ 100 → AllByRecursion (λ x. x ≤ℤ high) xs → Reaches p xs high
 top_reaches p xs high h all =
     let e = at_most_all high xs all in
     omega (arith, mul-le-mul_right (length xs) h)
 
-pub below_fails : (p : ℕ) (xs : List ℤ) (low w : ℤ) → 0 < p → 0 < length xs → All (λ x. low ≤ℤ x) xs → w <ℤ low → Reaches p xs w → ⊥
+pub below_fails : (p : ℕ) (xs : List ℤ) (low w : ℤ) → 0 < p → 0 < length xs → AllByRecursion (λ x. low ≤ℤ x) xs → w <ℤ low → Reaches p xs w → ⊥
 below_fails p xs low w h n all l r =
     let e = at_most_none w xs (All-weaker (λ x. low ≤ℤ x) (λ x. w <ℤ x) (λ x k. omega (arith, ints)) xs all) in
     let m : 1 * length xs ≤ p * length xs = mul-le-mul_right (length xs) h in
@@ -84,14 +84,14 @@ pub reaches_as : (p : ℕ) (xs : List ℤ) (u v : ℤ) → u ≡ v → Reaches p
 reaches_as p xs u v e h = let same = ap (λ (z : ℤ). at_most z xs) e in omega arith
 
 -- the least and the greatest of two runs
-pub lows : (a : ℤ) (xs ys : List ℤ) → All (λ x. fold int_min (fold int_min a xs) ys ≤ℤ x) (xs ++ ys)
+pub lows : (a : ℤ) (xs ys : List ℤ) → AllByRecursion (λ x. fold int_min (fold int_min a xs) ys ≤ℤ x) (xs ++ ys)
 lows a xs ys =
     let r = fold int_min (fold int_min a xs) ys in
     let b = folded_min_z_bounds (fold int_min a xs) ys r refl in
     let l = b.0 in
     All-append (λ x. r ≤ℤ x) xs ys (All-weaker (λ x. fold int_min a xs ≤ℤ x) (λ x. r ≤ℤ x) (λ x k. omega (arith, ints)) xs (folded_min_z_bounds a xs (fold int_min a xs) refl).1) b.1
 
-pub highs : (a : ℤ) (xs ys : List ℤ) → All (λ x. x ≤ℤ fold int_max (fold int_max a xs) ys) (xs ++ ys)
+pub highs : (a : ℤ) (xs ys : List ℤ) → AllByRecursion (λ x. x ≤ℤ fold int_max (fold int_max a xs) ys) (xs ++ ys)
 highs a xs ys =
     let r = fold int_max (fold int_max a xs) ys in
     let b = folded_max_z_bounds (fold int_max a xs) ys r refl in
@@ -99,7 +99,7 @@ highs a xs ys =
     All-append (λ x. x ≤ℤ r) xs ys (All-weaker (λ x. x ≤ℤ fold int_max a xs) (λ x. x ≤ℤ r) (λ x k. omega (arith, ints)) xs (folded_max_z_bounds a xs (fold int_max a xs) refl).1) b.1
 
 -- what lies below all of some values does not lie above all of them
-pub spread : (low high : ℤ) (xs : List ℤ) → 0 < length xs → All (λ x. low ≤ℤ x) xs → All (λ x. x ≤ℤ high) xs → low ≤ℤ high
+pub spread : (low high : ℤ) (xs : List ℤ) → 0 < length xs → AllByRecursion (λ x. low ≤ℤ x) xs → AllByRecursion (λ x. x ≤ℤ high) xs → low ≤ℤ high
 spread low high [] h a b = absurd (omega arith)
 spread low high (x ∷ xs) h a b = let l = a.0 in let u = b.0 in omega (arith, ints)
 

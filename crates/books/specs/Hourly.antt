@@ -5,15 +5,15 @@ use Rattle.std.specs.Int.{w32, w64}
 use Rattle.std.proofs.ByRecursion.{All-from_get_or, All-get_or, All-append}
 use Rattle.std.proofs.lemmas.List.{append_assoc, drop_more, get_or_at, length-map, length-take-le, map_push, set_at, take_more}
 use Rattle.std.proofs.lemmas.Int.{ints}
-use Rattle.std.specs.List.{AllByRecursion as All}
+use Rattle.std.specs.List.{AllByRecursion}
 use Rattle.hours.specs.Bounds.{Within}
 use Rattle.books.specs.Differences.{differences, total, losses, summed, Small, YearSum}
 
 -- numbers that are all small
-pub small_all : (b : ℕ) (xs : List ℤ) → Small b xs → All (Within b) xs
+pub small_all : (b : ℕ) (xs : List ℤ) → Small b xs → AllByRecursion (Within b) xs
 small_all b xs h = All-from_get_or (Within b) xs (pos 0) h
 
-pub all_small : (b : ℕ) (xs : List ℤ) → All (Within b) xs → Small b xs
+pub all_small : (b : ℕ) (xs : List ℤ) → AllByRecursion (Within b) xs → Small b xs
 all_small b xs h k below = All-get_or (Within b) xs k (pos 0) below h
 
 pub small-append : (b : ℕ) (xs ys : List ℤ) → Small b xs → Small b ys → Small b (xs ++ ys)
@@ -96,7 +96,7 @@ pub sum_more : (d sum wide front next : ℤ) (i : ℕ) → i < 9000 → Within 4
 sum_more d sum wide front next i few small low high same so then = (omega (arith, ints), omega (arith, ints), omega (arith, ints))
 
 -- differences of prices within b are within twice that, and so are the losses and, hour by hour, the sum
-all_differences : (b : ℕ) (xs ys : List ℤ) → All (Within b) xs → All (Within b) ys → All (Within (2 * b)) (differences xs ys)
+all_differences : (b : ℕ) (xs ys : List ℤ) → AllByRecursion (Within b) xs → AllByRecursion (Within b) ys → AllByRecursion (Within (2 * b)) (differences xs ys)
 all_differences b [] ys h k = tt
 all_differences b (x ∷ xs) [] h k = tt
 all_differences b (x ∷ xs) (y ∷ ys) h k = (here h.0 k.0, all_differences b xs ys h.1 k.1)
@@ -104,14 +104,14 @@ all_differences b (x ∷ xs) (y ∷ ys) h k = (here h.0 k.0, all_differences b x
     here : Within b x → Within b y → Within (2 * b) (x -ℤ y)
     here a c = (omega (arith, ints), omega (arith, ints))
 
-all_losses : (b : ℕ) (ds : List ℤ) → All (Within b) ds → All (Within b) (losses ds)
+all_losses : (b : ℕ) (ds : List ℤ) → AllByRecursion (Within b) ds → AllByRecursion (Within b) (losses ds)
 all_losses b [] h = tt
 all_losses b (d ∷ ds) h = (here h.0, all_losses b ds h.1)
   where
     here : Within b d → Within b (neg_ℤ d)
     here a = (omega (arith, ints), omega (arith, ints))
 
-total_within : (b : ℕ) (ds : List ℤ) → All (Within b) ds → Within (b * length ds) (total ds)
+total_within : (b : ℕ) (ds : List ℤ) → AllByRecursion (Within b) ds → Within (b * length ds) (total ds)
 total_within b [] h = (omega (arith, ints), omega (arith, ints))
 total_within b (d ∷ ds) h = more h.0 (total_within b ds h.1)
   where
@@ -122,7 +122,7 @@ total_within b (d ∷ ds) h = more h.0 (total_within b ds h.1)
 pub record Differ (ds : List ℤ) : Type 0 where
   pub sum : YearSum (summed ds)
   pub few : length ds ≤ 9000
-  pub lost : All (Within 400000) (losses ds)
+  pub lost : AllByRecursion (Within 400000) (losses ds)
 
 pub differ : (n : ℕ) (xs ys : List ℤ) → 0 < n → n ≤ 9000 → length xs ≡ n → length ys ≡ n → Small 200000 xs → Small 200000 ys → Differ (differences xs ys)
 differ n xs ys some few a b sx sy =

@@ -4,7 +4,7 @@ use Rattle.std.proofs.Common.{◌∙◌, ap, subst, sym, arith}
 use Rattle.std.proofs.lemmas.Int.{ints}
 use Rattle.std.proofs.lemmas.Bool.{and_from, and_parts, le-leb, leb-true}
 use Rattle.std.specs.Int.{int_min}
-use Rattle.std.specs.List.{AllByRecursion as All}
+use Rattle.std.specs.List.{AllByRecursion}
 use Rattle.hours.specs.Bounds.{Within}
 use Rattle.books.specs.Differences.{Small}
 use Rattle.books.specs.Histories.{stress_of}
@@ -91,7 +91,7 @@ pub percentile_within : (b p : ℕ) (xs : List ℤ) (v : ℤ) → Percentile p x
 percentile_within b p xs v h small = subst (λ (z : ℤ). Within b z) h.among.1.1 (small h.among.0 h.among.1.0)
 
 -- the least of values within b is within b
-least_within : (b : ℕ) (test : ℤ → Bool) (xs : List ℤ) → All (Within b) xs → IfSome (least_of test xs) (Within b)
+least_within : (b : ℕ) (test : ℤ → Bool) (xs : List ℤ) → AllByRecursion (Within b) xs → IfSome (least_of test xs) (Within b)
 least_within b test [] h = tt
 least_within b test (x ∷ xs) h = by (test x) (least_of test xs) (least_within b test xs h.1)
   where
@@ -103,7 +103,7 @@ least_within b test (x ∷ xs) h = by (test x) (least_of test xs) (least_within 
     by true o k = less o k
     by false o k = k
 
-pub stress_within : (b p : ℕ) (xs : List ℤ) → All (Within b) xs → Within b (stress_of (percentile_of p xs))
+pub stress_within : (b p : ℕ) (xs : List ℤ) → AllByRecursion (Within b) xs → Within b (stress_of (percentile_of p xs))
 stress_within b p xs h = by (percentile_of p xs) (least_within b (reached p xs) xs h)
   where
     by : (o : Option ℤ) → IfSome o (Within b) → Within b (stress_of o)

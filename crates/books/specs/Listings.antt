@@ -2,7 +2,7 @@
 use Rattle.std.specs.Prelude.{◌≡◌, ℕ, ◌+◌, Bool, true, false, cond, not, ◌||◌, List, [], ◌∷◌, ◌++◌, length, ℤ, is_some, IfOk, Some, Err, nat_le, refl}
 use Rattle.std.proofs.Common.{arith}
 use Rattle.std.proofs.lemmas.Int.{ints}
-use Rattle.std.specs.List.{AllByRecursion as All}
+use Rattle.std.specs.List.{AllByRecursion}
 use Rattle.std.proofs.lemmas.Bool.{and_parts}
 use Rattle.hours.specs.Bounds.{Within, within}
 use Rattle.hours.specs.Lookups.{first}
@@ -21,17 +21,17 @@ never : {A : Type 0} → true ≡ false → A
 never h = let z : ◌≡◌ {A = ℕ} 0 1 = cc in absurd (omega arith)
 
 -- where no row is at fault, every row is lawful
-all_lawful : (before rows : List Row) → is_some (first_at_fault row_at_fault before rows) ≡ false → All (λ r. lawful_row r ≡ true) rows
+all_lawful : (before rows : List Row) → is_some (first_at_fault row_at_fault before rows) ≡ false → AllByRecursion (λ r. lawful_row r ≡ true) rows
 all_lawful before [] h = tt
 all_lawful before (r ∷ rows) h = by (lawful_row r) (is_some (listed before r.key)) h (λ k. all_lawful (before ++ (r ∷ [])) rows k)
   where
-    by : (a b : Bool) → is_some (cond (not a || b) (Some (length before + 1)) (first_at_fault row_at_fault (before ++ (r ∷ [])) rows)) ≡ false → (is_some (first_at_fault row_at_fault (before ++ (r ∷ [])) rows) ≡ false → All (λ r. lawful_row r ≡ true) rows) → (a ≡ true) × All (λ r. lawful_row r ≡ true) rows
+    by : (a b : Bool) → is_some (cond (not a || b) (Some (length before + 1)) (first_at_fault row_at_fault (before ++ (r ∷ [])) rows)) ≡ false → (is_some (first_at_fault row_at_fault (before ++ (r ∷ [])) rows) ≡ false → AllByRecursion (λ r. lawful_row r ≡ true) rows) → (a ≡ true) × AllByRecursion (λ r. lawful_row r ≡ true) rows
     by true false k more = (refl, more k)
     by true true k more = never k
     by false b k more = never k
 
 -- what holds of every row's price holds of the price that is found
-found : (P : ℤ → Type 0) (p : Row → Bool) (rows : List Row) → All (λ r. lawful_row r ≡ true) rows → ((r : Row) → lawful_row r ≡ true → P r.price) → IfOk (price_in (first p rows)) P
+found : (P : ℤ → Type 0) (p : Row → Bool) (rows : List Row) → AllByRecursion (λ r. lawful_row r ≡ true) rows → ((r : Row) → lawful_row r ≡ true → P r.price) → IfOk (price_in (first p rows)) P
 found P p [] h each = tt
 found P p (r ∷ rows) h each = by (p r) (found P p rows h.1 each)
   where

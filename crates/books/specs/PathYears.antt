@@ -4,7 +4,7 @@ use Rattle.std.proofs.Common.{sym, ap, subst, ◌∙◌, arith}
 use Rattle.std.proofs.ByRecursion.{All-append, All-drop}
 use Rattle.std.proofs.lemmas.List.{get_or-replicate, length-map, length-replicate, map-append, take_at}
 use Rattle.std.proofs.lemmas.Int.{ints}
-use Rattle.std.specs.List.{AllByRecursion as All}
+use Rattle.std.specs.List.{AllByRecursion}
 use Rattle.hours.specs.Years.{clash, asked, some_hours_lem}
 use Rattle.hours.specs.Bounds.{Within}
 use Rattle.hours.specs.Faults.{unlawful_question}
@@ -181,7 +181,7 @@ hours_are hours s y n h = lawful (lawful_slot s && lawful_year y) (sym h)
 -- a price from differences that are known
 pub price_within : (h : ℕ) (d1 d2 : List ℤ) → h ≤ 9000 → Differ d1 → Differ d2 → Within 8000000000 (path_price h d1 d2)
 price_within h d1 d2 few a b =
-    let all = subst (All (Within 400000)) (sym (map-append neg_ℤ d1 d2)) (All-append (Within 400000) (losses d1) (losses d2) a.lost b.lost) in
+    let all = subst (AllByRecursion (Within 400000)) (sym (map-append neg_ℤ d1 d2)) (All-append (Within 400000) (losses d1) (losses d2) a.lost b.lost) in
     let stress = stress_of (percentile_of (percent (numerator (summed d1) (summed d2))) (losses (d1 ++ d2))) in
     let hourly : Within 400000 stress = stress_within 400000 (percent (numerator (summed d1) (summed d2))) (losses (d1 ++ d2)) all in
     let mean : Within 3600000000 (mean_ahead h (summed d1) (summed d2)) = ahead_within (summed d1).0 (summed d2).0 (summed d1).1 (summed d2).1 a.sum b.sum h few in

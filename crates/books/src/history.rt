@@ -122,7 +122,7 @@ impl<S: HourSource> Book for History<S> {
 
     ghost bounded = { λ b k.
         let m = S.HourSource in
-        history_bounded (S.HourSource.hours b.source) S.HourSource.locations (S.HourSource.prices b.source) (record { few = m.fewHours b.source; whole = m.wholeYear b.source; empty = m.emptyYear b.source; small = m.smallPrices b.source }) k };
+        history_bounded (S.HourSource.hours b.source) S.HourSource.locations (S.HourSource.prices b.source) (record { few = m.few_hours b.source; whole = m.whole_year b.source; empty = m.empty_year b.source; small = m.small_prices b.source }) k };
 
     fn price(&self, key: Key) -> Result<i64, Fault> {
         if !is_lawful_key(key) {

@@ -1,7 +1,7 @@
 -- An award of a standing item lowers or keeps R + S of its owner, changes nothing for others, and leaves a sound state.
 use Rattle.std.proofs.Common.{◌≡◌, ℕ, zero, suc, ◌+◌, ◌-◌, ◌*◌, ◌<◌, ◌≤◌, Bool, true, false, cond, ◌&&◌, ◌||◌, eqb, ltb, leb, ◌⊎◌, List, [], ◌∷◌, ◌++◌, length, ℤ, pos, ◌+ℤ◌, ◌-ℤ◌, ◌*ℤ◌, neg_ℤ, ◌≤ℤ◌, Ok, Err, sum_by, Result, sym, refl, ap, ◌∙◌, subst, inl, inr, ⊎_elim, arith}
 use lib.Signed.{le_z}
-use Rattle.std.specs.List.{AllByRecursion as All}
+use Rattle.std.specs.List.{AllByRecursion}
 use Rattle.std.proofs.lemmas.Int.{ints}
 use Rattle.std.proofs.lemmas.Bool.{cases_Bool, cond_both, and_parts, or_cases, both_ways, eq-eqb, eqb-false, cond-true}
 use Rattle.gate_model.specs.Money.{max0}
@@ -120,7 +120,7 @@ offer_within s k d w n x points i e b l some enough h =
     minus_neg a b z l = omega (arith, ints)
 
 -- the rights of a cleared conversion
-many_more : (p : Prices) (o c d given : ℕ) (parts : List Part) → All (PartBacked p o) parts → values o d (rights_of given c parts) ≡ mine c d (sum_z (λ l. worth l.megawatts l.price) parts)
+many_more : (p : Prices) (o c d given : ℕ) (parts : List Part) → AllByRecursion (PartBacked p o) parts → values o d (rights_of given c parts) ≡ mine c d (sum_z (λ l. worth l.megawatts l.price) parts)
 many_more p o c d given [] h = sym (cond_both (eqb c d) (pos 0) (pos 0) (λ y. y ≡ pos 0) (λ _. refl) (λ _. refl))
 many_more p o c d given (l ∷ ls) h =
     let r = many_more p o c d (given + 1) ls h.1 in
@@ -201,7 +201,7 @@ award_within s k d w x t l g h =
 changed_standing : (accounts : ℕ → Account) (c d : ℕ) (p : Period) (m : ℤ) (z : ℤ) → (accounts d).standing ≡ z → (changed accounts c (costed p m) d).standing ≡ z
 changed_standing accounts c d p m z h = elim (eqb c d) as (λ b. (cond b (costed p m (accounts d)) (accounts d)).standing ≡ z) [ true ↦ h | false ↦ h ]
 
-rights_priced : (p : Prices) (o given c : ℕ) (parts : List Part) → All (PartBacked p o) parts → All (RightPriced p) (rights_of given c parts)
+rights_priced : (p : Prices) (o given c : ℕ) (parts : List Part) → AllByRecursion (PartBacked p o) parts → AllByRecursion (RightPriced p) (rights_of given c parts)
 rights_priced p o given c [] h = tt
 rights_priced p o given c (l ∷ ls) h = (h.0.priced, rights_priced p o (given + 1) c ls h.1)
 

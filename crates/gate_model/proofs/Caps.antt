@@ -1,7 +1,7 @@
 -- The unsettled cost, with the most that what stands may add to it, is never over the limit of ground 11.
 use Rattle.std.proofs.Common.{◌≡◌, ℕ, zero, suc, ◌+◌, ◌-◌, ◌*◌, ◌^◌, ◌<◌, ◌≤◌, Bool, true, false, cond, not, ◌&&◌, ◌||◌, eqb, ltb, leb, ◌⊎◌, List, [], ◌∷◌, ◌++◌, map, length, ℤ, pos, ◌+ℤ◌, ◌-ℤ◌, ◌*ℤ◌, neg_ℤ, ◌≤ℤ◌, sym, refl, ap, ◌∙◌, subst, inl, inr, ⊎_elim, add-one, arith}
 use lib.Signed.{le_z, lt_z}
-use Rattle.std.specs.List.{AllByRecursion as All}
+use Rattle.std.specs.List.{AllByRecursion}
 use Rattle.std.proofs.lemmas.Int.{ints}
 use Rattle.std.proofs.lemmas.Bool.{cases_Bool, cond_both, cond-false, and_parts, eqb-true, ne_eqb}
 use Rattle.gate_model.specs.Money.{max0}
@@ -41,7 +41,7 @@ greatest_above p o rights i (bid key points price) h = subst (λ v. pos 0 ≤ℤ
 greatest_above p o rights i (offer k points) h = subst (λ v. pos 0 ≤ℤ v) (sym h.greatest-is) (most_above _ points)
 greatest_above p o rights i (conversion parts) h = subst (λ v. pos 0 ≤ℤ v) (sym h.greatest-is) (omega (arith, ints))
 
-may_add_above : (p : Prices) (o c : ℕ) (rights : List Right) (items : List Item) → All (Backed p o rights) items → pos 0 ≤ℤ may_add c items
+may_add_above : (p : Prices) (o c : ℕ) (rights : List Right) (items : List Item) → AllByRecursion (Backed p o rights) items → pos 0 ≤ℤ may_add c items
 may_add_above p o c rights [] h = omega (arith, ints)
 may_add_above p o c rights (i ∷ is) h =
     let r = may_add_above p o c rights is h.1 in
@@ -146,7 +146,7 @@ turned_capped s g h d =
     let r : over (λ j. cond (eqb j o) (pos 0) (f j)) (o + 1) (13 - (o + 1)) ≡ over f (suc o) (13 - (o + 1)) = over_after f o (o + 1) (13 - (o + 1)) (omega arith) ∙ ap (λ m. over f m (13 - (o + 1))) (add-one o) in
     omega (arith, ints)
 
-effect_capped : (s : State) (call : Call) → Sound s → Costed s → Capped s → All Unmet (grounds s call) → Capped (effect s call).1
+effect_capped : (s : State) (call : Call) → Sound s → Costed s → Capped s → AllByRecursion Unmet (grounds s call) → Capped (effect s call).1
 effect_capped s (posting c n) g k h t = account_capped s c (secured (cents (after_cents s c n))) (λ _. refl) h
 effect_capped s (returning c n) g k h t = account_capped s c (secured (cents (after_cents s c (neg_ℤ n)))) (λ _. refl) h
 effect_capped s (charge c n) g k h t = account_capped s c (λ a. charged a.invoiced (a.calculated +ℤ n) a) (λ _. refl) h

@@ -1,7 +1,7 @@
 -- Every call changes what is held of an unfinished key by what it clears.
 use Rattle.std.proofs.Common.{◌≡◌, ℕ, zero, suc, ◌+◌, ◌-◌, ◌*◌, ◌<◌, ◌≤◌, Bool, true, false, cond, not, ◌&&◌, ◌||◌, eqb, ltb, leb, ◌⊎◌, List, [], ◌∷◌, ◌++◌, map, length, ℤ, pos, ◌+ℤ◌, ◌-ℤ◌, ◌*ℤ◌, neg_ℤ, ◌≤ℤ◌, fold, filter, sym, refl, ap, ◌∙◌, subst, inl, inr, ⊎_elim, arith}
 use lib.Signed.{le_z, lt_z}
-use Rattle.std.specs.List.{AllByRecursion as All}
+use Rattle.std.specs.List.{AllByRecursion}
 use Rattle.std.proofs.lemmas.Int.{ints}
 use Rattle.std.proofs.lemmas.Bool.{cases_Bool, cond_both, cond-true, cond-false, and_parts, eqb-true, both_ways, ltb-true, lt-ltb}
 use Rattle.gate_model.specs.Sums.{sum_z}
@@ -116,7 +116,7 @@ award_moves k s i w x t l h =
 still : (x y : ℤ) → x ≡ y → (x +ℤ pos 0) ≡ ((y +ℤ pos 0) +ℤ pos 0)
 still x y e = omega (arith, ints)
 
-unmoved : (k : Key) (s : State) (call : Call) → (All Unmet (grounds s call) → unfinished (effect s call).1.month k.slot.period ≡ true → held k (effect s call).1 ≡ held k s)
+unmoved : (k : Key) (s : State) (call : Call) → (AllByRecursion Unmet (grounds s call) → unfinished (effect s call).1.month k.slot.period ≡ true → held k (effect s call).1 ≡ held k s)
     → unfinished (step s call).1.month k.slot.period ≡ true → (held k (step s call).1 +ℤ pos 0) ≡ ((held k s +ℤ pos 0) +ℤ pos 0)
 unmoved k s call f = decided_keeps (λ n _. unfinished n.month k.slot.period ≡ true → (held k n +ℤ pos 0) ≡ ((held k s +ℤ pos 0) +ℤ pos 0)) (grounds s call) s (effect s call)
     (λ _. still (held k s) (held k s) refl) (λ g u. still (held k (effect s call).1) (held k s) (f g u))

@@ -2,7 +2,7 @@
 use Rattle.std.proofs.Common.{◌≡◌, ℕ, zero, suc, ◌+◌, ◌-◌, ◌*◌, ◌<◌, ◌≤◌, Bool, true, false, cond, not, ◌&&◌, ◌||◌, eqb, ltb, leb, ◌⊎◌, List, [], ◌∷◌, ◌++◌, map, length, ℤ, pos, negsuc, ◌+ℤ◌, ◌-ℤ◌, ◌*ℤ◌, neg_ℤ, ◌≤ℤ◌, filter, sym, refl, ap, ◌∙◌, subst, inl, inr, ⊎_elim, arith}
 use lib.IntN.{*ℤ-zero}
 use lib.Signed.{le_z}
-use Rattle.std.specs.List.{AllByRecursion as All}
+use Rattle.std.specs.List.{AllByRecursion}
 use Rattle.std.proofs.lemmas.Int.{ints}
 use Rattle.std.proofs.lemmas.Bool.{cases_Bool, cond_both, cond-false, and_parts, or_parts, ne_eqb, eqb-false, leb-true}
 use Rattle.std.proofs.ByRecursion.{All-append, all_kept_by, All-map, All-weaker}
@@ -75,7 +75,7 @@ LawfulMonths r = lawful_length r.key.slot.period.months ≡ true
 
 pub record Costed (s : State) : Type 0 where
   pub original : (c m : ℕ) → s.month ≤ m → original_for c m s.rights ≤ℤ (s.accounts c).costs m
-  pub lawful : All LawfulMonths s.rights
+  pub lawful : AllByRecursion LawfulMonths s.rights
   pub year : s.month ≤ 12
 
 cost_above : (c m : ℕ) (r : Right) → LawfulMonths r → pos 0 ≤ℤ mine r.owner c (cost_in m r)
@@ -84,7 +84,7 @@ cost_above c m r h = cond_both (eqb r.owner c) (cost_in m r) (pos 0) (λ z. pos 
     (λ _. part_above _ _ (parts_of _ h) (times_above r.megawatts r.original)) (λ _. omega (arith, ints)))
     (λ _. omega (arith, ints))
 
-pub original_above : (c m : ℕ) (rights : List Right) → All LawfulMonths rights → pos 0 ≤ℤ original_for c m rights
+pub original_above : (c m : ℕ) (rights : List Right) → AllByRecursion LawfulMonths rights → pos 0 ≤ℤ original_for c m rights
 original_above c m [] h = omega (arith, ints)
 original_above c m (r ∷ rs) h = let a = cost_above c m r h.0 in let b = original_above c m rs h.1 in omega (arith, ints)
 
@@ -128,7 +128,7 @@ bought_costed s c key price w x q h = record {
     more : (f k z : ℤ) → f ≤ℤ k → (f +ℤ (z +ℤ pos 0)) ≤ℤ (k +ℤ z)
     more f k z g = omega (arith, ints)
 
-free_rights : (d m given c : ℕ) (p : Prices) (o : ℕ) (parts : List Part) → All (PartBacked p o) parts → (original_for d m (rights_of given c parts) ≡ pos 0) × All LawfulMonths (rights_of given c parts)
+free_rights : (d m given c : ℕ) (p : Prices) (o : ℕ) (parts : List Part) → AllByRecursion (PartBacked p o) parts → (original_for d m (rights_of given c parts) ≡ pos 0) × AllByRecursion LawfulMonths (rights_of given c parts)
 free_rights d m given c p o [] h = (refl, tt)
 free_rights d m given c p o (l ∷ ls) h =
     let r = right_for (given + 1) c l.key l.megawatts l.price (pos 0) in
@@ -138,7 +138,7 @@ free_rights d m given c p o (l ∷ ls) h =
     let i0 = i.0 in
     (omega (arith, ints), (q, i.1))
 
-converted_costed : (s : State) (c : ℕ) (parts : List Part) (p : Prices) (o : ℕ) → All (PartBacked p o) parts → Costed s → Costed (converted s c parts)
+converted_costed : (s : State) (c : ℕ) (parts : List Part) (p : Prices) (o : ℕ) → AllByRecursion (PartBacked p o) parts → Costed s → Costed (converted s c parts)
 converted_costed s c parts p o b h = record {
   original = λ d m l.
       let a = sum_z-append (λ r. mine r.owner d (cost_in m r)) s.rights (rights_of s.given c parts) in
@@ -148,9 +148,9 @@ converted_costed s c parts p o b h = record {
   year = h.year;
 }
 
-lessened_lawful : (k w : ℕ) (rights : List Right) → All LawfulMonths rights → All LawfulMonths (lessened k w rights)
+lessened_lawful : (k w : ℕ) (rights : List Right) → AllByRecursion LawfulMonths rights → AllByRecursion LawfulMonths (lessened k w rights)
 lessened_lawful k w rights h = all_replaced LawfulMonths (right_numbered k) (rest w) rights
-    (λ r q. cond_both (ltb w r.megawatts) (less w r ∷ []) [] (All LawfulMonths) (λ _. (q, tt)) (λ _. tt)) h
+    (λ r q. cond_both (ltb w r.megawatts) (less w r ∷ []) [] (AllByRecursion LawfulMonths) (λ _. (q, tt)) (λ _. tt)) h
 
 -- what q megawatts of a right cost d in a month
 abbrev share : Right → ℕ → ℕ → ℕ → ℤ
@@ -236,7 +236,7 @@ transferred_costed s buyer k q some enough u h = record {
         elim (eqb r.owner d) as (λ b. cond b (cond (bears r.key.slot.period m) x (pos 0)) (pos 0) ≤ℤ cond b (cond (bears r.key.slot.period m) y (pos 0)) (pos 0))
         [ true ↦ elim (bears r.key.slot.period m) as (λ b. cond b x (pos 0) ≤ℤ cond b y (pos 0)) [ true ↦ z | false ↦ omega (arith, ints) ] | false ↦ omega (arith, ints) ]
 
-kept_below : (d m : ℕ) (p : Right → Bool) (rights : List Right) → All LawfulMonths rights → original_for d m (filter p rights) ≤ℤ original_for d m rights
+kept_below : (d m : ℕ) (p : Right → Bool) (rights : List Right) → AllByRecursion LawfulMonths rights → original_for d m (filter p rights) ≤ℤ original_for d m rights
 kept_below d m p [] h = omega (arith, ints)
 kept_below d m p (r ∷ rs) h =
     let i = kept_below d m p rs h.1 in
@@ -287,7 +287,7 @@ award_costed s k w x t l g h =
     (λ _. settled_costed s k h)
     (λ z. cleared_costed s k w x (item_at k s.items).body refl t g (item_backed s k t g) (lawful_some (item_at k s.items) w x l z) h)
 
-effect_costed : (s : State) (call : Call) → Sound s → Costed s → All Unmet (grounds s call) → Costed (effect s call).1
+effect_costed : (s : State) (call : Call) → Sound s → Costed s → AllByRecursion Unmet (grounds s call) → Costed (effect s call).1
 effect_costed s (posting c n) g h t = account_costed s c (secured (cents (after_cents s c n))) (λ _ _. refl) h
 effect_costed s (returning c n) g h t = account_costed s c (secured (cents (after_cents s c (neg_ℤ n)))) (λ _ _. refl) h
 effect_costed s (charge c n) g h t = account_costed s c (λ a. charged a.invoiced (a.calculated +ℤ n) a) (λ _ _. refl) h

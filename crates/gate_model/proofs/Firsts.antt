@@ -3,7 +3,7 @@ use Rattle.std.proofs.Common.{◌≡◌, ℕ, Bool, true, false, cond, ◌&&◌,
 use Rattle.std.proofs.lemmas.Int.{ints}
 use Rattle.std.proofs.lemmas.Bool.{false≢true}
 use Rattle.std.proofs.ByRecursion.{All-append}
-use Rattle.std.specs.List.{AllByRecursion as All}
+use Rattle.std.specs.List.{AllByRecursion}
 use Rattle.gate_model.specs.Sums.{sum_z}
 use Rattle.gate_model.proofs.Sums.{sum_z-append}
 use Rattle.gate_model.specs.State.{the_first, any, replaced}
@@ -17,17 +17,17 @@ replaced_sum f p g d (x ∷ xs) h =
     (elim (p x) as (λ b. (b || any p xs) ≡ true → (sum_z f (cond b (g x ++ xs) (x ∷ replaced p g xs)) +ℤ f (cond b x (the_first p d xs))) ≡ ((f x +ℤ sum_z f xs) +ℤ sum_z f (g (cond b x (the_first p d xs)))))
     [ true ↦ λ _. omega (arith, ints) | false ↦ λ k. let s = r k in omega (arith, ints) ]) h
 
-pub all_first : {X : Type 0} (P : X → Type 0) (p : X → Bool) (d : X) (xs : List X) → any p xs ≡ true → All P xs → P (the_first p d xs)
+pub all_first : {X : Type 0} (P : X → Type 0) (p : X → Bool) (d : X) (xs : List X) → any p xs ≡ true → AllByRecursion P xs → P (the_first p d xs)
 all_first P p d [] h a = absurd (false≢true h)
 all_first P p d (x ∷ xs) h a =
     let r = all_first P p d xs in
     (elim (p x) as (λ b. (b || any p xs) ≡ true → P (cond b x (the_first p d xs))) [ true ↦ λ _. a.0 | false ↦ λ k. r k a.1 ]) h
 
-pub all_replaced : {X : Type 0} (P : X → Type 0) (p : X → Bool) (g : X → List X) (xs : List X) → ((x : X) → P x → All P (g x)) → All P xs → All P (replaced p g xs)
+pub all_replaced : {X : Type 0} (P : X → Type 0) (p : X → Bool) (g : X → List X) (xs : List X) → ((x : X) → P x → AllByRecursion P (g x)) → AllByRecursion P xs → AllByRecursion P (replaced p g xs)
 all_replaced P p g [] k a = tt
 all_replaced P p g (x ∷ xs) k a =
     let r = all_replaced P p g xs k a.1 in
-    elim (p x) as (λ b. All P (cond b (g x ++ xs) (x ∷ replaced p g xs)))
+    elim (p x) as (λ b. AllByRecursion P (cond b (g x ++ xs) (x ∷ replaced p g xs)))
     [ true ↦ All-append P (g x) xs (k x a.0) a.1 | false ↦ (a.0, r) ]
 
 -- a sum of numbers that are at least 0 is at least 0, and at least each
@@ -35,12 +35,12 @@ pub sum_above : {X : Type 0} (f : X → ℤ) → ((x : X) → pos 0 ≤ℤ f x) 
 sum_above f h [] = omega (arith, ints)
 sum_above f h (x ∷ xs) = let a = h x in let r = sum_above f h xs in omega (arith, ints)
 
-pub each_below : {X : Type 0} (f : X → ℤ) → ((x : X) → pos 0 ≤ℤ f x) → (xs : List X) (z : ℤ) → sum_z f xs ≤ℤ z → All (λ x. f x ≤ℤ z) xs
+pub each_below : {X : Type 0} (f : X → ℤ) → ((x : X) → pos 0 ≤ℤ f x) → (xs : List X) (z : ℤ) → sum_z f xs ≤ℤ z → AllByRecursion (λ x. f x ≤ℤ z) xs
 each_below f h [] z l = tt
 each_below f h (x ∷ xs) z l =
     let a = h x in let s = sum_above f h xs in
     (omega (arith, ints), each_below f h xs z (omega (arith, ints)))
 
-pub all_both : {X : Type 0} (P Q R : X → Type 0) → ((x : X) → P x → Q x → R x) → (xs : List X) → All P xs → All Q xs → All R xs
+pub all_both : {X : Type 0} (P Q R : X → Type 0) → ((x : X) → P x → Q x → R x) → (xs : List X) → AllByRecursion P xs → AllByRecursion Q xs → AllByRecursion R xs
 all_both P Q R k [] a b = tt
 all_both P Q R k (x ∷ xs) a b = (k x a.0 b.0, all_both P Q R k xs a.1 b.1)

@@ -1,6 +1,6 @@
 -- The law over all runs.
 use Rattle.std.proofs.Common.{◌≡◌, ℕ, Bool, true, false, List, [], ◌∷◌, ◌++◌, ℤ, pos, ◌+ℤ◌, ◌-ℤ◌, fold, sym, refl, ap, ◌∙◌, subst, arith}
-use Rattle.std.specs.List.{AllByRecursion as All}
+use Rattle.std.specs.List.{AllByRecursion}
 use Rattle.std.proofs.lemmas.Int.{ints}
 use Rattle.std.proofs.lemmas.List.Sums.{fold_push}
 use Rattle.std.proofs.ByRecursion.{All-weaker}
@@ -62,9 +62,9 @@ record Kept (s : State) : Type 0 where
   sound : Sound s
   costed : Costed s
   capped : Capped s
-  sane : All (λ c. Sane (s.accounts c)) customers
+  sane : AllByRecursion (λ c. Sane (s.accounts c)) customers
   roomy : Roomy s
-  sized : All (λ r. lawful_megawatts r.megawatts ≡ true) s.rights
+  sized : AllByRecursion (λ r. lawful_megawatts r.megawatts ≡ true) s.rights
   numbered : Numbered s
 
 reached_kept : (p : Prices) (calls : List Call) → Kept (reached p calls)

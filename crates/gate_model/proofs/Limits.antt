@@ -3,7 +3,7 @@ use Rattle.std.proofs.Common.{◌≡◌, ℕ, zero, suc, ◌+◌, ◌-◌, ◌*�
 use lib.ListN.{length-map}
 use lib.Signed.{le_z, lt_z}
 use borrow.Author.Differences.{abs_is}
-use Rattle.std.specs.List.{AllByRecursion as All}
+use Rattle.std.specs.List.{AllByRecursion}
 use Rattle.std.proofs.lemmas.Int.{ints}
 use Rattle.std.proofs.lemmas.Bool.{cases_Bool, cond_both, and_parts, or_parts, eqb-true, ltb-false, le-ltb, or_from, and_from, ltb-true, leb-true, le-leb, eqb-false, not-false, false≢true}
 use Rattle.std.proofs.lemmas.List.Sums.{sum_by-cons, sum_by-append, sum_by_push, length-filter, count_by-le-length}
@@ -104,7 +104,7 @@ converting_roomy s c p (l ∷ ls) n e =
     let t = last_passed (λ i. crowded (converting s c p (take i (l ∷ ls)))) 1 l ls e in
     subst (λ xs. Roomy (converting s c p xs)) (take_all (1 + length ls) (l ∷ ls) (omega arith)) (not_crowded (converting s c p (take (1 + length ls) (l ∷ ls))) t)
 
-effect_roomy : (s : State) (call : Call) → Roomy s → All Unmet (grounds s call) → Roomy (effect s call).1
+effect_roomy : (s : State) (call : Call) → Roomy s → AllByRecursion Unmet (grounds s call) → Roomy (effect s call).1
 effect_roomy s (posting c n) h t = record { lines = h.lines; rights = h.rights; numbers = h.numbers }
 effect_roomy s (returning c n) h t = record { lines = h.lines; rights = h.rights; numbers = h.numbers }
 effect_roomy s (charge c n) h t = record { lines = h.lines; rights = h.rights; numbers = h.numbers }
@@ -135,7 +135,7 @@ new_roomy p = record { lines = omega arith; rights = omega arith; numbers = omeg
 
 -- accounts
 abbrev AllSane : (ℕ → Account) → Type 0
-AllSane accounts = All (λ c. Sane (accounts c)) customers
+AllSane accounts = AllByRecursion (λ c. Sane (accounts c)) customers
 
 changed_sane : (accounts : ℕ → Account) (c : ℕ) (change : Account → Account) → (Sane (accounts c) → Sane (change (accounts c))) → AllSane accounts → AllSane (changed accounts c change)
 changed_sane accounts c change f h = All-weaker (λ d. Sane (accounts d)) (λ d. Sane (changed accounts c change d))
@@ -173,7 +173,7 @@ secured_sane s c n t h =
     let l : cents (after_cents s c n) ≤ 10 ^ 13 = let z = abs_is (after_cents s c n) in omega (arith, ints) in
     changed_sane s.accounts c (secured (cents (after_cents s c n))) (λ a. record { security = l; invoiced = a.invoiced; calculated = a.calculated }) h
 
-effect_sane : (s : State) (call : Call) → AllSane s.accounts → All Unmet (grounds s call) → AllSane (effect s call).1.accounts
+effect_sane : (s : State) (call : Call) → AllSane s.accounts → AllByRecursion Unmet (grounds s call) → AllSane (effect s call).1.accounts
 effect_sane s (posting c n) h t = secured_sane s c n (or_parts (lt_z n (pos 1)) _ (call_passed _ t.1.0)).1 h
 effect_sane s (returning c n) h t = secured_sane s c (neg_ℤ n) (or_parts (lt_z n (pos 1)) _ (call_passed _ t.1.0)).1 h
 effect_sane s (charge c n) h t =
@@ -198,14 +198,14 @@ effect_sane s month_turn h t =
     (λ c a l. record { security = a.security; invoiced = a.invoiced; calculated = not-false _ l }) customers h u
 effect_sane s (new_book p) h t = h
 
-pub step_sane : (s : State) (call : Call) → All (λ c. Sane (s.accounts c)) customers → All (λ c. Sane ((step s call).1.accounts c)) customers
+pub step_sane : (s : State) (call : Call) → AllByRecursion (λ c. Sane (s.accounts c)) customers → AllByRecursion (λ c. Sane ((step s call).1.accounts c)) customers
 step_sane s call h = decided_keeps (λ n _. AllSane n.accounts) (grounds s call) s (effect s call) h (effect_sane s call h)
 
-pub new_sane : (p : Prices) → All (λ c. Sane ((new p).accounts c)) customers
+pub new_sane : (p : Prices) → AllByRecursion (λ c. Sane ((new p).accounts c)) customers
 new_sane p = All-weaker (λ c. Unit {0}) (λ c. Sane ((new p).accounts c)) (λ c _. record { security = omega arith; invoiced = refl; calculated = refl }) customers (tt, (tt, (tt, (tt, (tt, (tt, (tt, (tt, (tt, (tt, (tt, (tt, (tt, (tt, (tt, (tt, tt))))))))))))))))
 
 -- numbers
-rising-append : (xs ys : List Right) (n : ℕ) → Rising xs → Rising ys → All (λ x. x.number ≤ n) xs → All (λ y. n < y.number) ys → Rising (xs ++ ys)
+rising-append : (xs ys : List Right) (n : ℕ) → Rising xs → Rising ys → AllByRecursion (λ x. x.number ≤ n) xs → AllByRecursion (λ y. n < y.number) ys → Rising (xs ++ ys)
 rising-append [] ys n h g a b = g
 rising-append (x ∷ xs) ys n h g a b =
     let l = a.0 in (
@@ -213,9 +213,9 @@ rising-append (x ∷ xs) ys n h g a b =
       rising-append xs ys n h.1 g a.1 b,
     )
 
-all_lessened : (P : Right → Type 0) (k w : ℕ) (rs : List Right) → ((r : Right) → P r → P (less w r)) → All P rs → All P (lessened k w rs)
+all_lessened : (P : Right → Type 0) (k w : ℕ) (rs : List Right) → ((r : Right) → P r → P (less w r)) → AllByRecursion P rs → AllByRecursion P (lessened k w rs)
 all_lessened P k w rs f h = all_replaced P (right_numbered k) (rest w) rs
-    (λ r q. cond_both (ltb w r.megawatts) (less w r ∷ []) [] (All P) (λ _. (f r q, tt)) (λ _. tt)) h
+    (λ r q. cond_both (ltb w r.megawatts) (less w r ∷ []) [] (AllByRecursion P) (λ _. (f r q, tt)) (λ _. tt)) h
 
 rising_lessened : (k w : ℕ) (rs : List Right) → Rising rs → Rising (lessened k w rs)
 rising_lessened k w [] h = tt
@@ -236,7 +236,7 @@ rising-repriced : (p : Prices) (rs : List Right) → Rising rs → Rising (map (
 rising-repriced p [] h = tt
 rising-repriced p (r ∷ rs) h = (All-map (λ t. r.number < t.number) (repriced p) rs h.0, rising-repriced p rs h.1)
 
-numbers_of : (given c : ℕ) (parts : List Part) → Rising (rights_of given c parts) × All (λ y. given < y.number) (rights_of given c parts) × All (λ y. y.number ≤ given + length parts) (rights_of given c parts)
+numbers_of : (given c : ℕ) (parts : List Part) → Rising (rights_of given c parts) × AllByRecursion (λ y. given < y.number) (rights_of given c parts) × AllByRecursion (λ y. y.number ≤ given + length parts) (rights_of given c parts)
 numbers_of given c [] = (tt, tt, tt)
 numbers_of given c (l ∷ ls) =
     let r = numbers_of (given + 1) c ls in (
@@ -245,7 +245,7 @@ numbers_of given c (l ∷ ls) =
       (omega arith, All-weaker (λ y. y.number ≤ (given + 1) + length ls) (λ y. y.number ≤ given + suc (length ls)) (λ y m. omega arith) (rights_of (given + 1) c ls) r.2),
     )
 
-one_numbered : (rs : List Right) (n : ℕ) (r : Right) → r.number ≡ n + 1 → Rising rs → All (λ x. x.number ≤ n) rs → Rising (rs ++ r ∷ []) × All (λ x. x.number ≤ n + 1) (rs ++ r ∷ [])
+one_numbered : (rs : List Right) (n : ℕ) (r : Right) → r.number ≡ n + 1 → Rising rs → AllByRecursion (λ x. x.number ≤ n) rs → Rising (rs ++ r ∷ []) × AllByRecursion (λ x. x.number ≤ n + 1) (rs ++ r ∷ [])
 one_numbered rs n r e h a = (
   rising-append rs (r ∷ []) n h (tt, tt) a (omega arith, tt),
   All-append (λ x. x.number ≤ n + 1) rs (r ∷ []) (All-weaker (λ x. x.number ≤ n) (λ x. x.number ≤ n + 1) (λ x l. omega arith) rs a) (omega arith, tt),
@@ -294,17 +294,17 @@ new_numbered p = record { rising = tt; given = tt }
 
 -- megawatts of rights
 abbrev Sized : State → Type 0
-Sized s = All (λ r. lawful_megawatts r.megawatts ≡ true) s.rights
+Sized s = AllByRecursion (λ r. lawful_megawatts r.megawatts ≡ true) s.rights
 
 sized : (q : ℕ) → 1 ≤ q → q ≤ 20_000 → lawful_megawatts q ≡ true
 sized q a b = and_from (leb 1 q) (leb q 20_000) (le-leb 1 q a) (le-leb q 20_000 b)
 
-lessened_sized : (k w : ℕ) (rs : List Right) → All (λ r. lawful_megawatts r.megawatts ≡ true) rs → All (λ r. lawful_megawatts r.megawatts ≡ true) (lessened k w rs)
+lessened_sized : (k w : ℕ) (rs : List Right) → AllByRecursion (λ r. lawful_megawatts r.megawatts ≡ true) rs → AllByRecursion (λ r. lawful_megawatts r.megawatts ≡ true) (lessened k w rs)
 lessened_sized k w rs h = all_replaced (λ r. lawful_megawatts r.megawatts ≡ true) (right_numbered k) (rest w) rs
-    (λ r q. cond_both (ltb w r.megawatts) (less w r ∷ []) [] (All (λ r. lawful_megawatts r.megawatts ≡ true))
+    (λ r q. cond_both (ltb w r.megawatts) (less w r ∷ []) [] (AllByRecursion (λ r. lawful_megawatts r.megawatts ≡ true))
     (λ t. let l = ltb-true w r.megawatts t in let m = leb-true r.megawatts 20_000 (and_parts (leb 1 r.megawatts) _ q).1 in (sized (r.megawatts - w) (omega arith) (omega arith), tt)) (λ _. tt)) h
 
-parts_sized : (p : Prices) (o given c : ℕ) (parts : List Part) → All (PartBacked p o) parts → All (λ r. lawful_megawatts r.megawatts ≡ true) (rights_of given c parts)
+parts_sized : (p : Prices) (o given c : ℕ) (parts : List Part) → AllByRecursion (PartBacked p o) parts → AllByRecursion (λ r. lawful_megawatts r.megawatts ≡ true) (rights_of given c parts)
 parts_sized p o given c [] h = tt
 parts_sized p o given c (l ∷ ls) h = (h.0.size, parts_sized p o (given + 1) c ls h.1)
 
@@ -321,7 +321,7 @@ submitted_sized : (c : ℕ) (p : Period) (ls : List Line) (s : State) → Sized 
 submitted_sized c p [] s h = h
 submitted_sized c p (l ∷ ls) s h = submitted_sized c p ls (stand c p s l) h
 
-effect_sized : (s : State) (call : Call) → Sound s → Sized s → All Unmet (grounds s call) → Sized (effect s call).1
+effect_sized : (s : State) (call : Call) → Sound s → Sized s → AllByRecursion Unmet (grounds s call) → Sized (effect s call).1
 effect_sized s (posting c n) g h t = h
 effect_sized s (returning c n) g h t = h
 effect_sized s (charge c n) g h t = h
@@ -342,5 +342,5 @@ effect_sized s (transfer seller buyer k q) g h t =
 effect_sized s month_turn g h t = all_kept_by _ (λ r. lawful_megawatts r.megawatts ≡ true) s.rights h
 effect_sized s (new_book p) g h t = All-map (λ r. lawful_megawatts r.megawatts ≡ true) (repriced p) s.rights h
 
-pub step_sized : (s : State) (call : Call) → Sound s → All (λ r. lawful_megawatts r.megawatts ≡ true) s.rights → All (λ r. lawful_megawatts r.megawatts ≡ true) (step s call).1.rights
+pub step_sized : (s : State) (call : Call) → Sound s → AllByRecursion (λ r. lawful_megawatts r.megawatts ≡ true) s.rights → AllByRecursion (λ r. lawful_megawatts r.megawatts ≡ true) (step s call).1.rights
 step_sized s call g h = decided_keeps (λ n _. Sized n) (grounds s call) s (effect s call) h (effect_sized s call g h)

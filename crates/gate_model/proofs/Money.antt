@@ -2,7 +2,7 @@ use Rattle.std.proofs.Common.{◌≡◌, ℕ, suc, ◌+◌, ◌-◌, ◌*◌, �
 use Rattle.std.specs.Int.{int_max}
 use borrow.Author.Differences.{up, down, sum_is_lem}
 use Rattle.std.proofs.lemmas.Int.{ints, clamps}
-use Rattle.std.specs.List.{AllByRecursion as All}
+use Rattle.std.specs.List.{AllByRecursion}
 use Rattle.gate_model.specs.Money.{max0, floor_z, Parts, one, two, three, four, six, twelve, BidLaw, OfferLaw, ConversionLaw, PartsLaw, FloorLaw, greatest, MoneyLaws}
 
 -- for omega: max0 as up and down
@@ -55,14 +55,14 @@ greatest_low : (x : ℤ) (xs : List ℤ) → x ≤ℤ greatest x xs
 greatest_low x [] = omega (arith, ints)
 greatest_low x (y ∷ ys) = let l = greatest_low (int_max x y) ys in omega (arith, ints, clamps)
 
-greatest_bounds : (x : ℤ) (xs : List ℤ) (r : ℤ) → greatest x xs ≤ℤ r → All (λ y. y ≤ℤ r) (x ∷ xs)
+greatest_bounds : (x : ℤ) (xs : List ℤ) (r : ℤ) → greatest x xs ≤ℤ r → AllByRecursion (λ y. y ≤ℤ r) (x ∷ xs)
 greatest_bounds x [] r h = (h, tt)
 greatest_bounds x (y ∷ ys) r h =
     let b = greatest_bounds (int_max x y) ys r h in
     let l = b.0 in
     (omega (arith, ints, clamps), (omega (arith, ints, clamps), b.1))
 
-greatest_least : (x : ℤ) (xs : List ℤ) (r : ℤ) → All (λ y. y ≤ℤ r) (x ∷ xs) → greatest x xs ≤ℤ r
+greatest_least : (x : ℤ) (xs : List ℤ) (r : ℤ) → AllByRecursion (λ y. y ≤ℤ r) (x ∷ xs) → greatest x xs ≤ℤ r
 greatest_least x [] r h = h.0
 greatest_least x (y ∷ ys) r h = let a = h.0 in let b = h.1.0 in greatest_least (int_max x y) ys r (omega (arith, ints, clamps), h.1.1)
 

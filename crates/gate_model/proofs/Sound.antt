@@ -1,6 +1,6 @@
 -- The invariant of all states that a gate reaches, and that it survives new rights, lost megawatts and items that leave.
 use Rattle.std.proofs.Common.{◌≡◌, ℕ, zero, suc, ◌+◌, ◌-◌, ◌*◌, ◌<◌, ◌≤◌, Bool, true, false, cond, ◌&&◌, ◌||◌, eqb, ltb, leb, ◌⊎◌, List, [], ◌∷◌, ◌++◌, ℤ, pos, ◌+ℤ◌, ◌-ℤ◌, ◌*ℤ◌, neg_ℤ, ◌≤ℤ◌, Ok, Err, Result, sym, refl, ap, ◌∙◌, subst, inl, inr, ⊎_elim, arith}
-use Rattle.std.specs.List.{AllByRecursion as All}
+use Rattle.std.specs.List.{AllByRecursion}
 use Rattle.std.proofs.lemmas.Int.{ints}
 use Rattle.std.proofs.lemmas.Bool.{cases_Bool, cases_eq, cases_lt, cond_both, eqb-true, eq-eqb, cond-true}
 use Rattle.std.proofs.ByRecursion.{All-append}
@@ -47,7 +47,7 @@ pub record PartBacked (p : Prices) (o : ℕ) (l : Part) : Type 0 where
 pub record ConversionBacked (p : Prices) (o : ℕ) (i : Item) (parts : List Part) : Type 0 where
   pub requirement_is : i.requirement ≡ conversion_requirement parts
   pub greatest_is : i.greatest ≡ pos 0
-  pub each : All (PartBacked p o) parts
+  pub each : AllByRecursion (PartBacked p o) parts
 
 abbrev pub BodyBacked : Prices → ℕ → List Right → Item → Body → Type 0
 BodyBacked p o rights i (bid key points price) = BidBacked p o i key points price
@@ -65,9 +65,9 @@ WindowSound o items (Closed n p) = Unit {0}
 
 pub record Sound (s : State) : Type 0 where
   pub sums : (c : ℕ) → (s.accounts c).standing ≡ required c s.items
-  pub backed : All (Backed s.prices s.month s.rights) s.items
+  pub backed : AllByRecursion (Backed s.prices s.month s.rights) s.items
   pub covered : (k : ℕ) → committed k s.items ≤ℤ pos (right_at k s.rights).megawatts
-  pub priced : All (RightPriced s.prices) s.rights
+  pub priced : AllByRecursion (RightPriced s.prices) s.rights
   pub window : WindowSound s.month s.items s.phase
 
 pub window_items : (o : ℕ) (xs ys : List Item) (phase : Phase) → (xs ≡ [] → ys ≡ []) → WindowSound o xs phase → WindowSound o ys phase
@@ -86,7 +86,7 @@ requirement_above p o rights i (offer k points) h = subst (λ v. pos 0 ≤ℤ v)
 requirement_above p o rights i (conversion parts) h = subst (λ v. pos 0 ≤ℤ v) (sym h.requirement-is) (conversion_above parts)
 
 -- each item commits no more than all do
-each_commits : (bound : ℕ → ℤ) (xs : List Item) → ((k : ℕ) → committed k xs ≤ℤ bound k) → All (λ i. (k : ℕ) → commits_body k i.body ≤ℤ bound k) xs
+each_commits : (bound : ℕ → ℤ) (xs : List Item) → ((k : ℕ) → committed k xs ≤ℤ bound k) → AllByRecursion (λ i. (k : ℕ) → commits_body k i.body ≤ℤ bound k) xs
 each_commits bound [] h = tt
 each_commits bound (x ∷ xs) h = (
   (λ k. let a = h k in let s = sum_above (λ i. commits_body k i.body) (λ i. commits_above k i.body) xs in omega (arith, ints)),
@@ -108,19 +108,19 @@ body_moves p o rs ts i (offer k points) f h =
     f k (omega (arith, ints)) o i points h
 body_moves p o rs ts i (conversion parts) f h = h
 
-backed_moves : (p : Prices) (o : ℕ) (rs ts : List Right) (items : List Item) → ((k : ℕ) → pos 1 ≤ℤ committed k items → Serves (right_at k rs) (right_at k ts)) → All (Backed p o rs) items → All (Backed p o ts) items
+backed_moves : (p : Prices) (o : ℕ) (rs ts : List Right) (items : List Item) → ((k : ℕ) → pos 1 ≤ℤ committed k items → Serves (right_at k rs) (right_at k ts)) → AllByRecursion (Backed p o rs) items → AllByRecursion (Backed p o ts) items
 backed_moves p o rs ts items f h = all_both (Backed p o rs) (λ i. (k : ℕ) → commits_body k i.body ≤ℤ committed k items) (Backed p o ts)
     (λ i b c. body_moves p o rs ts i i.body (λ k l. f k (let d = c k in omega (arith, ints))) b)
     items h (each_commits (λ k. committed k items) items (λ k. omega (arith, ints)))
 
 -- what stands is backed and covered by these rights
 pub record StandingSound (p : Prices) (o : ℕ) (rights : List Right) (items : List Item) : Type 0 where
-  pub backed : All (Backed p o rights) items
+  pub backed : AllByRecursion (Backed p o rights) items
   pub covered : (k : ℕ) → committed k items ≤ℤ pos (right_at k rights).megawatts
-  pub priced : All (RightPriced p) rights
+  pub priced : AllByRecursion (RightPriced p) rights
 
 -- new rights
-pub rights_more : (p : Prices) (o : ℕ) (rs ys : List Right) (items : List Item) → StandingSound p o rs items → All (RightPriced p) ys → StandingSound p o (rs ++ ys) items
+pub rights_more : (p : Prices) (o : ℕ) (rs ys : List Right) (items : List Item) → StandingSound p o rs items → AllByRecursion (RightPriced p) ys → StandingSound p o (rs ++ ys) items
 rights_more p o rs ys items h q = record {
   backed = backed_moves p o rs (rs ++ ys) items (λ k l. let c = h.covered k in serves_at _ _ (right_append k rs ys (omega (arith, ints)))) h.backed;
   covered = λ k. let c = h.covered k in ⊎_elim
@@ -147,7 +147,7 @@ rights_less p o rs items k w h l = record {
       (λ n. let f = ap (λ r. r.megawatts) (lessened_other k w j rs n) in omega (arith, ints))
       (cases_eq j k);
   priced = all_replaced (RightPriced p) (right_numbered k) (rest w) rs
-      (λ r q. cond_both (ltb w r.megawatts) (less w r ∷ []) [] (All (RightPriced p)) (λ _. (q, tt)) (λ _. tt)) h.priced;
+      (λ r q. cond_both (ltb w r.megawatts) (less w r ∷ []) [] (AllByRecursion (RightPriced p)) (λ _. (q, tt)) (λ _. tt)) h.priced;
 }
 
 pub standing_of : (s : State) → Sound s → StandingSound s.prices s.month s.rights s.items

@@ -1,7 +1,7 @@
 -- Submissions and conversions: what comes to stand is backed and covered, and its owner stays within.
 use Rattle.std.proofs.Common.{◌≡◌, ℕ, zero, suc, ◌+◌, ◌-◌, ◌*◌, ◌<◌, ◌≤◌, Bool, true, false, cond, not, ◌&&◌, ◌||◌, eqb, ltb, leb, ◌⊎◌, List, [], ◌∷◌, ◌++◌, map, length, ℤ, pos, ◌+ℤ◌, ◌-ℤ◌, ◌*ℤ◌, neg_ℤ, ◌≤ℤ◌, Ok, Err, Result, sym, refl, ap, ◌∙◌, subst, inl, inr, ⊎_elim, arith}
 use lib.Signed.{le_z, lt_z}
-use Rattle.std.specs.List.{AllByRecursion as All}
+use Rattle.std.specs.List.{AllByRecursion}
 use Rattle.std.proofs.lemmas.Int.{ints}
 use Rattle.std.proofs.lemmas.Bool.{cases_Bool, cond_both, and_parts, eqb-true, eqb-false, eq-eqb, and_from, not-false, false≢true}
 use Rattle.std.proofs.ByRecursion.{All-push}
@@ -106,8 +106,8 @@ line_within c p s (bid_line path class points) d t h = stands_too_within s (item
 line_within c p s (offer_line k points) d t h = stands_too_within s (item_of s c p (offer_line k points)) d t h
 
 pub submitted_sound : (c : ℕ) (p : Period) (ls : List Line) (s : State) → Sound s → Ahead s.month p → ((xs : List Item) → WindowSound s.month xs s.phase)
-    → All (λ l. not (lawful_line l) ≡ false) ls → All (λ l. not (owns c s.rights l) ≡ false) ls → Passes (stand c p) (λ t l. not (free p t l)) s ls
-    → All (λ l. asked s.prices s.rights p l ≡ Ok (price_or_zero (asked s.prices s.rights p l))) ls
+    → AllByRecursion (λ l. not (lawful_line l) ≡ false) ls → AllByRecursion (λ l. not (owns c s.rights l) ≡ false) ls → Passes (stand c p) (λ t l. not (free p t l)) s ls
+    → AllByRecursion (λ l. asked s.prices s.rights p l ≡ Ok (price_or_zero (asked s.prices s.rights p l))) ls
     → Sound (submitted s c p ls)
 submitted_sound c p [] s h a w t6 t7 t8 t10 = h
 submitted_sound c p (l ∷ ls) s h a w t6 t7 t8 t10 =
@@ -119,15 +119,15 @@ pub submitted_within : (c : ℕ) (p : Period) (d : ℕ) (ls : List Line) (s : St
 submitted_within c p d [] s t h = h
 submitted_within c p d (l ∷ ls) s t h = submitted_within c p d ls (stand c p s l) t.1 (line_within c p s l d t.0 h)
 
-parts_backed : (s : State) (p : Period) (ls : List Request) → Ahead s.month p → All (λ l. not (lawful_request l) ≡ false) ls
-    → All (λ l. s.prices (line_key p l.path l.class) ≡ Ok (price_or_zero (s.prices (line_key p l.path l.class)))) ls
-    → All (PartBacked s.prices s.month) (map (part_of s p) ls)
+parts_backed : (s : State) (p : Period) (ls : List Request) → Ahead s.month p → AllByRecursion (λ l. not (lawful_request l) ≡ false) ls
+    → AllByRecursion (λ l. s.prices (line_key p l.path l.class) ≡ Ok (price_or_zero (s.prices (line_key p l.path l.class)))) ls
+    → AllByRecursion (PartBacked s.prices s.month) (map (part_of s p) ls)
 parts_backed s p [] a q t = tt
 parts_backed s p (l ∷ ls) a q t =
     (record { ahead = a; priced = t.0; size = (and_parts (lawful_class l.class) _ (and_parts (lawful_path l.path) _ (not-false _ q.0)).1).1 }, parts_backed s p ls a q.1 t.1)
 
-pub converting_sound : (s : State) (c : ℕ) (p : Period) (ls : List Request) → Sound s → Ahead s.month p → ((xs : List Item) → WindowSound s.month xs s.phase) → All (λ l. not (lawful_request l) ≡ false) ls
-    → All (λ l. s.prices (line_key p l.path l.class) ≡ Ok (price_or_zero (s.prices (line_key p l.path l.class)))) ls
+pub converting_sound : (s : State) (c : ℕ) (p : Period) (ls : List Request) → Sound s → Ahead s.month p → ((xs : List Item) → WindowSound s.month xs s.phase) → AllByRecursion (λ l. not (lawful_request l) ≡ false) ls
+    → AllByRecursion (λ l. s.prices (line_key p l.path l.class) ≡ Ok (price_or_zero (s.prices (line_key p l.path l.class)))) ls
     → Sound (converting s c p ls)
 converting_sound s c p ls h a w q t = stands_too_sound s (conversion_item (length s.items + 1) c (map (part_of s p) ls)) h
     record { requirement_is = refl; greatest_is = refl; each = parts_backed s p ls a q t } (λ k. let g = h.covered k in omega (arith, ints)) w

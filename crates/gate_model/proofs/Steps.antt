@@ -2,7 +2,7 @@
 use Rattle.std.proofs.Common.{◌≡◌, ℕ, zero, suc, ◌+◌, ◌-◌, ◌*◌, ◌<◌, ◌≤◌, Bool, true, false, cond, not, ◌&&◌, ◌||◌, eqb, ltb, leb, ◌⊎◌, List, [], ◌∷◌, ◌++◌, map, length, ℤ, pos, ◌+ℤ◌, ◌-ℤ◌, ◌*ℤ◌, neg_ℤ, nat_abs, ◌≤ℤ◌, Ok, Err, fold, filter, Result, sym, refl, ap, ◌∙◌, subst, inl, inr, ⊎_elim, arith}
 use lib.Signed.{le_z, lt_z}
 use borrow.Author.Differences.{abs_is}
-use Rattle.std.specs.List.{AllByRecursion as All}
+use Rattle.std.specs.List.{AllByRecursion}
 use Rattle.std.proofs.lemmas.Int.{ints}
 use Rattle.std.proofs.lemmas.Bool.{cases_Bool, cond_both, and_parts, or_parts, eqb-true, leb-true, true≢false, false≢true, not-false, not-true}
 use Rattle.std.proofs.ByRecursion.{all_kept_by, All-map, All-weaker}
@@ -60,8 +60,8 @@ idle_window o items (Closed n p) e h = absurd (false≢true e)
 none_covered : (items : List Item) (rights : List Right) (k : ℕ) → items ≡ [] → committed k items ≤ℤ pos (right_at k rights).megawatts
 none_covered items rights k e = subst (λ xs. committed k xs ≤ℤ pos (right_at k rights).megawatts) (sym e) (omega (arith, ints))
 
-none_backed : (p : Prices) (o : ℕ) (rights : List Right) (items : List Item) → items ≡ [] → All (Backed p o rights) items
-none_backed p o rights items e = subst (All (Backed p o rights)) (sym e) tt
+none_backed : (p : Prices) (o : ℕ) (rights : List Right) (items : List Item) → items ≡ [] → AllByRecursion (Backed p o rights) items
+none_backed p o rights items e = subst (AllByRecursion (Backed p o rights)) (sym e) tt
 
 turned_sound : (s : State) → is_idle s.phase ≡ true → Sound s → Sound (turned s)
 turned_sound s i h =
@@ -74,7 +74,7 @@ turned_sound s i h =
       window = idle_window (s.month + 1) s.items s.phase i e;
     }
 
-rebooked_sound : (s : State) (p : Prices) → is_idle s.phase ≡ true → All (λ r. p r.key ≡ Ok (price_or_zero (p r.key))) s.rights → Sound s → Sound (rebooked s p)
+rebooked_sound : (s : State) (p : Prices) → is_idle s.phase ≡ true → AllByRecursion (λ r. p r.key ≡ Ok (price_or_zero (p r.key))) s.rights → Sound s → Sound (rebooked s p)
 rebooked_sound s p i t h =
     let e = idle_items s.month s.items s.phase i h.window in
     record {
@@ -91,7 +91,7 @@ ended_sound s h = record { sums = λ c. refl; backed = tt; covered = λ k. omega
 pub committed_above : (n : ℕ) (items : List Item) → pos 0 ≤ℤ committed n items
 committed_above n items = sum_above (λ i. commits_body n i.body) (λ i. commits_above n i.body) items
 
-required_above : (p : Prices) (o d : ℕ) (rights : List Right) (items : List Item) → All (Backed p o rights) items → pos 0 ≤ℤ required d items
+required_above : (p : Prices) (o d : ℕ) (rights : List Right) (items : List Item) → AllByRecursion (Backed p o rights) items → pos 0 ≤ℤ required d items
 required_above p o d rights [] h = omega (arith, ints)
 required_above p o d rights (i ∷ is) h =
     let r = required_above p o d rights is h.1 in
@@ -115,7 +115,7 @@ pub record Passed (s : State) (seller buyer k q : ℕ) : Type 0 where
   pub free : (committed k s.items +ℤ pos q) ≤ℤ pos (right_at k s.rights).megawatts
   pub tested : (above (transferred s buyer k q) seller ≡ false) × (above (transferred s buyer k q) buyer ≡ false)
 
-pub transfer_passed : (s : State) (seller buyer k q : ℕ) → All Unmet (grounds s (transfer seller buyer k q)) → Passed s seller buyer k q
+pub transfer_passed : (s : State) (seller buyer k q : ℕ) → AllByRecursion Unmet (grounds s (transfer seller buyer k q)) → Passed s seller buyer k q
 transfer_passed s seller buyer k q g =
     let g6 = not_passed _ g.1.0 in
     let g7 = and_parts (any (right_numbered k) s.rights) _ (not_passed _ g.1.1.0) in
@@ -157,7 +157,7 @@ transferred_within s seller buyer k q d t g h =
     same_sum : (x y z w : ℤ) → (x +ℤ pos 0) ≡ (y +ℤ pos 0) → z ≡ x +ℤ (w +ℤ pos 0) → w ≡ pos 0 → y ≡ z
     same_sum x y z w e f g = omega (arith, ints)
 
-effect_sound : (s : State) (call : Call) → Sound s → All Unmet (grounds s call) → Sound (effect s call).1
+effect_sound : (s : State) (call : Call) → Sound s → AllByRecursion Unmet (grounds s call) → Sound (effect s call).1
 effect_sound s (posting c n) h g = account_sound s c (secured (cents (after_cents s c n))) (λ _. refl) h
 effect_sound s (returning c n) h g = account_sound s c (secured (cents (after_cents s c (neg_ℤ n)))) (λ _. refl) h
 effect_sound s (charge c n) h g = account_sound s c (λ a. charged a.invoiced (a.calculated +ℤ n) a) (λ _. refl) h
@@ -218,7 +218,7 @@ invoiced_within s c d h =
       | false ↦ h
     ]
 
-effect_within : (s : State) (call : Call) (d : ℕ) → may_raise call ≡ false → Sound s → Within s d → All Unmet (grounds s call) → Within (effect s call).1 d
+effect_within : (s : State) (call : Call) (d : ℕ) → may_raise call ≡ false → Sound s → Within s d → AllByRecursion Unmet (grounds s call) → Within (effect s call).1 d
 effect_within s (posting c n) d r h k g =
     let t = (or_parts (lt_z n (pos 1)) _ (call_passed _ g.1.0)).0 in
     posted_within s c d n (omega (arith, ints)) k

@@ -1,6 +1,6 @@
 -- What it means that a table of grounds is passed.
 use Rattle.std.proofs.Common.{◌≡◌, ℕ, zero, suc, ◌+◌, Bool, true, false, cond, not, ◌&&◌, ◌||◌, List, [], ◌∷◌, ◌++◌, ℤ, pos, Some, None, Ok, Err, Option, Result, sym, refl, ap, ◌∙◌, subst, arith}
-use Rattle.std.specs.List.{AllByRecursion as All}
+use Rattle.std.specs.List.{AllByRecursion}
 use Rattle.gate_model.specs.State.{State}
 use Rattle.gate_model.specs.Effects.{Line, price_or_zero}
 use Rattle.gate_model.specs.Grounds.{is_unmet, approved, at_call, at_line, at_standing, at_price, unless_priced}
@@ -18,7 +18,7 @@ pub met_is_not_NotMet : (line : ℕ) (cause : Option Fault) → MetAt line cause
 met_is_not_NotMet line cause e = let z : ◌≡◌ {A = ℕ} 0 1 = cc in omega arith
 
 -- what holds of the gate before, and of what the call leaves where no ground is met, holds after the call
-pub decided_keeps : (P : State → Bool → Type 0) (gs : List (Ground × Met)) (s : State) (r : Outcome × State) → P s false → (All Unmet gs → P r.1 true) → P (decided gs s r).1 (approved gs)
+pub decided_keeps : (P : State → Bool → Type 0) (gs : List (Ground × Met)) (s : State) (r : Outcome × State) → P s false → (AllByRecursion Unmet gs → P r.1 true) → P (decided gs s r).1 (approved gs)
 decided_keeps P [] s r h f = f tt
 decided_keeps P (g ∷ gs) s r h f =
     let i = decided_keeps P gs s r h in
@@ -33,11 +33,11 @@ pub not_passed : (t : Bool) → at_call (not t) ≡ NotMet → t ≡ true
 not_passed true e = refl
 not_passed false e = absurd (met_is_not_NotMet 0 None e)
 
-pub lines_passed : {X : Type 0} (f : X → Bool) (i : ℕ) (ls : List X) → at_line (λ _ l. f l) i ls ≡ NotMet → All (λ l. f l ≡ false) ls
+pub lines_passed : {X : Type 0} (f : X → Bool) (i : ℕ) (ls : List X) → at_line (λ _ l. f l) i ls ≡ NotMet → AllByRecursion (λ l. f l ≡ false) ls
 lines_passed f i [] e = tt
 lines_passed f i (l ∷ ls) e =
     let r = lines_passed f (suc i) ls in
-    (elim (f l) as (λ b. f l ≡ b → cond b (MetAt i None) (at_line (λ _ l. f l) (suc i) ls) ≡ NotMet → (f l ≡ false) × All (λ l. f l ≡ false) ls)
+    (elim (f l) as (λ b. f l ≡ b → cond b (MetAt i None) (at_line (λ _ l. f l) (suc i) ls) ≡ NotMet → (f l ≡ false) × AllByRecursion (λ l. f l ≡ false) ls)
     [ true ↦ λ _ k. absurd (met_is_not_NotMet i None k) | false ↦ λ q k. (q, r k) ]) refl e
 
 -- each line passes, where the lines before it stand already
@@ -52,9 +52,9 @@ standing_passed stands test i s (l ∷ ls) e =
     (elim (test s l) as (λ b. test s l ≡ b → cond b (MetAt i None) (at_standing stands test (suc i) (stands s l) ls) ≡ NotMet → (test s l ≡ false) × Passes stands test (stands s l) ls)
     [ true ↦ λ _ k. absurd (met_is_not_NotMet i None k) | false ↦ λ q k. (q, r k) ]) refl e
 
-pub prices_passed : {X : Type 0} (asked : X → Result ℤ Fault) (Line-of : ℕ → X → ℕ) (i : ℕ) (ls : List X) → at_price asked Line-of i ls ≡ NotMet → All (λ l. asked l ≡ Ok (price_or_zero (asked l))) ls
+pub prices_passed : {X : Type 0} (asked : X → Result ℤ Fault) (Line-of : ℕ → X → ℕ) (i : ℕ) (ls : List X) → at_price asked Line-of i ls ≡ NotMet → AllByRecursion (λ l. asked l ≡ Ok (price_or_zero (asked l))) ls
 prices_passed asked Line-of i [] e = tt
 prices_passed asked Line-of i (l ∷ ls) e =
     let r = prices_passed asked Line-of (suc i) ls in
-    (elim (asked l) as (λ a. unless_priced a (Line-of i l) (at_price asked Line-of (suc i) ls) ≡ NotMet → (a ≡ Ok (price_or_zero a)) × All (λ l. asked l ≡ Ok (price_or_zero (asked l))) ls)
+    (elim (asked l) as (λ a. unless_priced a (Line-of i l) (at_price asked Line-of (suc i) ls) ≡ NotMet → (a ≡ Ok (price_or_zero a)) × AllByRecursion (λ l. asked l ≡ Ok (price_or_zero (asked l))) ls)
     [ Ok p ↦ λ k. (refl, r k) | Err f ↦ λ k. absurd (met_is_not_NotMet (Line-of i l) (Some f) k) ]) e

@@ -1,7 +1,7 @@
 -- What holds after any calls whatever.
 use Rattle.std.specs.Prelude.{◌≡◌, ℕ, ◌+◌, ◌^◌, ◌<◌, ◌≤◌, Bool, true, false, List, [], ◌∷◌, ◌++◌, length, ℤ, pos, ◌+ℤ◌, ◌-ℤ◌, ◌≤ℤ◌, Ok, Err, Result}
 use Rattle.gate_model.specs.Sums.{sum_z}
-use Rattle.std.specs.List.{AllByRecursion as All}
+use Rattle.std.specs.List.{AllByRecursion}
 use Rattle.gate_model.specs.Measures.{Prices, lawful_megawatts, unfinished}
 use Rattle.gate_model.specs.Curves.{bid_requirement, offer_requirement, conversion_requirement}
 use Rattle.gate_model.specs.State.{Account, Body, bid, offer, conversion, Item, State, right_at}
@@ -31,12 +31,12 @@ PartPriced p l = p l.key ≡ Ok l.price
 abbrev pub BodyPriced : Prices → Body → Type 0
 BodyPriced p (bid key points price) = p key ≡ Ok price
 BodyPriced p (offer k points) = Unit {0}
-BodyPriced p (conversion parts) = All (PartPriced p) parts
+BodyPriced p (conversion parts) = AllByRecursion (PartPriced p) parts
 
 -- each right and each standing line keeps the price that the book in force answers; an offer has its right's
 pub record PricesAgree (s : State) : Type 0 where
-  pub rights : All (RightPriced s.prices) s.rights
-  pub lines : All (λ i. BodyPriced s.prices i.body) s.items
+  pub rights : AllByRecursion (RightPriced s.prices) s.rights
+  pub lines : AllByRecursion (λ i. BodyPriced s.prices i.body) s.items
 
 -- what the rules require of a standing item, at the kept prices
 abbrev pub requirement_of : List Right → Body → ℤ
@@ -46,7 +46,7 @@ requirement_of rights (conversion parts) = conversion_requirement parts
 
 -- each standing item keeps what the rules require of it, and each account the sum of what its customer's items keep
 pub record SumsAgree (s : State) : Type 0 where
-  pub items : All (λ i. i.requirement ≡ requirement_of s.rights i.body) s.items
+  pub items : AllByRecursion (λ i. i.requirement ≡ requirement_of s.rights i.body) s.items
   pub accounts : (c : ℕ) → (s.accounts c).standing ≡ required c s.items
 
 -- an account within its limits
@@ -64,11 +64,11 @@ pub record Roomy (s : State) : Type 0 where
 -- no number twice
 abbrev pub Rising : List Right → Type 0
 Rising [] = Unit {0}
-Rising (r ∷ rs) = All (λ t. r.number < t.number) rs × Rising rs
+Rising (r ∷ rs) = AllByRecursion (λ t. r.number < t.number) rs × Rising rs
 
 pub record Numbered (s : State) : Type 0 where
   pub rising : Rising s.rights
-  pub given : All (λ r. r.number ≤ s.given) s.rights
+  pub given : AllByRecursion (λ r. r.number ≤ s.given) s.rights
 
 -- charges, payments, month turns and new books may take a customer above the security
 abbrev pub may_raise : Call → Bool
@@ -92,9 +92,9 @@ pub record WithinLimits (s : State) : Type 0 where
   pub months : s.month ≤ 12
   pub costs : (c m : ℕ) → s.month ≤ m → pos 0 ≤ℤ (s.accounts c).costs m
   pub cost_limit : (c : ℕ) → (unsettled s.month (s.accounts c) +ℤ sum_z (λ i. mine i.owner c i.greatest) s.items) ≤ℤ pos (10 ^ 16)
-  pub accounts : All (λ c. Sane (s.accounts c)) customers
+  pub accounts : AllByRecursion (λ c. Sane (s.accounts c)) customers
   pub room : Roomy s
-  pub megawatts : All (λ r. lawful_megawatts r.megawatts ≡ true) s.rights
+  pub megawatts : AllByRecursion (λ r. lawful_megawatts r.megawatts ≡ true) s.rights
   pub numbers : Numbered s
 
 pub record Law (p : Prices) (calls : List Call) : Type 0 where

@@ -73,16 +73,16 @@ hours_low r y e =
     grind (arith, nat_tests)
 
 -- no slot has more than 9,000 hours
-pub few_hours : (counts : List CountRow) (means : List MeanRow) → is_some (rows_refusal counts means) ≡ false → (s : Slot) (y : ℕ) → rows_count counts s y ≤ 9000
-few_hours counts means e s y = go (row_of counts s) refl
+pub few_hours_lem : (counts : List CountRow) (means : List MeanRow) → is_some (rows_refusal counts means) ≡ false → (s : Slot) (y : ℕ) → rows_count counts s y ≤ 9000
+few_hours_lem counts means e s y = go (row_of counts s) refl
   where
     go : (o : Option CountRow) → row_of counts s ≡ o → hours_by o y ≤ 9000
     go None q = omega arith
     go (Some r) q = hours_low r y (found count_at_fault (λ (r : CountRow). lawful_count r ≡ true) count_good [] counts (accepted counts means e).0 (λ (r : CountRow). same_slot r.slot s) r q).0
 
-pub whole_year : (o : Option MeanRow) (n : ℕ) (zs : List ℤ) → every_hour o n ≡ Some zs → length zs ≡ n
-whole_year None n zs e = not_none zs e
-whole_year (Some m) n zs e = let same : replicate n m.mcc ≡ zs = cc in ap length (sym same) ∙ length-replicate n m.mcc
+pub whole_year_lem : (o : Option MeanRow) (n : ℕ) (zs : List ℤ) → every_hour o n ≡ Some zs → length zs ≡ n
+whole_year_lem None n zs e = not_none zs e
+whole_year_lem (Some m) n zs e = let same : replicate n m.mcc ≡ zs = cc in ap length (sym same) ∙ length-replicate n m.mcc
 
 -- the row of a mean that is found is within bounds, and its year has hours
 pub mean_facts : (counts : List CountRow) (means : List MeanRow) → is_some (rows_refusal counts means) ≡ false → (l : ℕ) (s : Slot) (y : ℕ) (m : MeanRow) → mean_of means l s y ≡ Some m → Within 200000 m.mcc × (0 < rows_count counts s y)
@@ -98,15 +98,15 @@ mean_facts counts means e l s y m q =
     ap (λ (t : Slot). rows_count counts t m.year) (slot_same m.slot s r.0) ∙ ap (rows_count counts s) (eqb-true m.year y r.1) in
     (within-Within 200000 m.mcc d.0, subst (λ (n : ℕ). 0 < n) here (ltb-true 0 _ d.1))
 
-pub empty_year : (counts : List CountRow) (means : List MeanRow) → is_some (rows_refusal counts means) ≡ false → (l : ℕ) (s : Slot) (y : ℕ) → rows_count counts s y ≡ 0 → mean_prices counts means l s y ≡ None
-empty_year counts means e l s y z = go (mean_of means l s y) refl
+pub empty_year_lem : (counts : List CountRow) (means : List MeanRow) → is_some (rows_refusal counts means) ≡ false → (l : ℕ) (s : Slot) (y : ℕ) → rows_count counts s y ≡ 0 → mean_prices counts means l s y ≡ None
+empty_year_lem counts means e l s y z = go (mean_of means l s y) refl
   where
     go : (o : Option MeanRow) → mean_of means l s y ≡ o → every_hour o (rows_count counts s y) ≡ None
     go None q = refl
     go (Some m) q = let f = (mean_facts counts means e l s y m q).1 in absurd (omega arith)
 
-pub small_prices : (counts : List CountRow) (means : List MeanRow) → is_some (rows_refusal counts means) ≡ false → (l : ℕ) (s : Slot) (y : ℕ) (zs : List ℤ) (h : ℕ) → mean_prices counts means l s y ≡ Some zs → Within 200000 (slice_index_or zs h (pos 0))
-small_prices counts means e l s y zs h q = go (mean_of means l s y) refl q
+pub small_prices_lem : (counts : List CountRow) (means : List MeanRow) → is_some (rows_refusal counts means) ≡ false → (l : ℕ) (s : Slot) (y : ℕ) (zs : List ℤ) (h : ℕ) → mean_prices counts means l s y ≡ Some zs → Within 200000 (slice_index_or zs h (pos 0))
+small_prices_lem counts means e l s y zs h q = go (mean_of means l s y) refl q
   where
     at : (n : ℕ) (z : ℤ) → Within 200000 z → (h < n) ⊎ (n ≤ h) → Within 200000 (slice_index_or (replicate n z) h (pos 0))
     at n z w (inl below) = subst (Within 200000) (sym (get_or-replicate n h z (pos 0) below)) w

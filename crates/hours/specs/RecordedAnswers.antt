@@ -150,8 +150,8 @@ fill_answered xs ys start hours buffer after year w e p q = (
 
 -- the laws of an hour source
 
-pub few_hours : (xs : List ℤ) (k : Slot) (y : ℕ) → hours_in (records_of xs) k y ≤ 9000
-few_hours xs k y = (kept xs).few k y
+pub few_hours_lem : (xs : List ℤ) (k : Slot) (y : ℕ) → hours_in (records_of xs) k y ≤ 9000
+few_hours_lem xs k y = (kept xs).few k y
 
 standing : (all : List ℤ) (start n : ℕ) (o : Option (List ℤ)) (vs : List ℤ) → Stands all start n o → o ≡ Some vs → (length vs ≡ n) × (0 < n)
 unfolding Stands
@@ -162,11 +162,11 @@ whole_some : (xs : List ℤ) (l : ℕ) (k : Slot) (y : ℕ) (vs : List ℤ) → 
 whole_some xs l k y vs e =
     standing xs _ _ (prices_in (records_of xs) l k y) vs ((kept xs).stands (series_of l k y) ((kept xs).series (series_of l k y) vs e)) e
 
-pub whole_year : (xs : List ℤ) (l : ℕ) (k : Slot) (y : ℕ) (vs : List ℤ) → prices_in (records_of xs) l k y ≡ Some vs → length vs ≡ hours_in (records_of xs) k y
-whole_year xs l k y vs e = (whole_some xs l k y vs e).0
+pub whole_year_lem : (xs : List ℤ) (l : ℕ) (k : Slot) (y : ℕ) (vs : List ℤ) → prices_in (records_of xs) l k y ≡ Some vs → length vs ≡ hours_in (records_of xs) k y
+whole_year_lem xs l k y vs e = (whole_some xs l k y vs e).0
 
-pub empty_year : (xs : List ℤ) (l : ℕ) (k : Slot) (y : ℕ) → hours_in (records_of xs) k y ≡ 0 → prices_in (records_of xs) l k y ≡ None
-empty_year xs l k y z = go (prices_in (records_of xs) l k y) (whole_some xs l k y)
+pub empty_year_lem : (xs : List ℤ) (l : ℕ) (k : Slot) (y : ℕ) → hours_in (records_of xs) k y ≡ 0 → prices_in (records_of xs) l k y ≡ None
+empty_year_lem xs l k y z = go (prices_in (records_of xs) l k y) (whole_some xs l k y)
   where
     go : (o : Option (List ℤ)) → ((vs : List ℤ) → o ≡ Some vs → (length vs ≡ hours_in (records_of xs) k y) × (0 < hours_in (records_of xs) k y)) → o ≡ None
     go None f = refl
@@ -175,5 +175,5 @@ empty_year xs l k y z = go (prices_in (records_of xs) l k y) (whole_some xs l k 
 lawful_within : (z : ℤ) → lawful_price z ≡ true → Within 200000 z
 lawful_within z e = (grind (arith, ints, nat_tests), grind (arith, ints, nat_tests))
 
-pub small_prices : (xs : List ℤ) (l : ℕ) (k : Slot) (y : ℕ) (vs : List ℤ) (hour : ℕ) → prices_in (records_of xs) l k y ≡ Some vs → Within 200000 (slice_index_or vs hour (pos 0))
-small_prices xs l k y vs hour e = lawful_within (slice_index_or vs hour (pos 0)) ((kept xs).near (series_of l k y) vs e hour)
+pub small_prices_lem : (xs : List ℤ) (l : ℕ) (k : Slot) (y : ℕ) (vs : List ℤ) (hour : ℕ) → prices_in (records_of xs) l k y ≡ Some vs → Within 200000 (slice_index_or vs hour (pos 0))
+small_prices_lem xs l k y vs hour e = lawful_within (slice_index_or vs hour (pos 0)) ((kept xs).near (series_of l k y) vs e hour)

@@ -1,6 +1,6 @@
 //! Average hours as an hour source.
 ghost use Rattle.hours.specs.Means.{rows_count, mean_prices};
-ghost use Rattle.hours.specs.LawfulRows.{few_hours, whole_year, empty_year, small_prices};
+ghost use Rattle.hours.specs.LawfulRows.{few_hours_lem, whole_year_lem, empty_year_lem, small_prices_lem};
 ghost use Rattle.std.proofs.Common.{rules, arith};
 
 use super::average::Average;
@@ -18,17 +18,17 @@ impl HourSource for Average {
 
     ghost prices = { λ source location slot year. mean_prices source.counts.items source.means.items location slot year };
 
-    ghost someLocation = { first_of (Prim.search rules, Prim.grind (arith, Self.row.coded.inj)) };
+    ghost some_location = { first_of (Prim.search rules, Prim.grind (arith, Self.row.coded.inj)) };
 
-    ghost fewLocations = { first_of (Prim.search rules, Prim.grind (arith, Self.row.coded.inj)) };
+    ghost few_locations = { first_of (Prim.search rules, Prim.grind (arith, Self.row.coded.inj)) };
 
-    ghost fewHours = { λ source slot year. few_hours source.counts.items source.means.items source.lawful slot year };
+    ghost few_hours = { λ source slot year. few_hours_lem source.counts.items source.means.items source.lawful slot year };
 
-    ghost wholeYear = { λ source location slot year zs there. whole_year _ _ zs there };
+    ghost whole_year = { λ source location slot year zs there. whole_year_lem _ _ zs there };
 
-    ghost emptyYear = { λ source location slot year none. empty_year source.counts.items source.means.items source.lawful location slot year none };
+    ghost empty_year = { λ source location slot year none. empty_year_lem source.counts.items source.means.items source.lawful location slot year none };
 
-    ghost smallPrices = { λ source location slot year zs hour there. small_prices source.counts.items source.means.items source.lawful location slot year zs hour there };
+    ghost small_prices = { λ source location slot year zs hour there. small_prices_lem source.counts.items source.means.items source.lawful location slot year zs hour there };
 
     fn location_count() -> u8 {
         Self::LOCATIONS

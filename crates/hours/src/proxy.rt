@@ -93,24 +93,24 @@ impl<S: HourSource> HourSource for Proxy<S> {
 
     ghost prices = { λ source location slot year. proxied (λ l. S.HourSource.prices source.below l slot year) S.HourSource.locations (S.HourSource.hours source.below slot year) location };
 
-    ghost someLocation = { Prim.search rules };
+    ghost some_location = { Prim.search rules };
 
-    ghost fewLocations = { Prim.search rules };
+    ghost few_locations = { Prim.search rules };
 
-    ghost fewHours = { Prim.search rules };
+    ghost few_hours = { Prim.search rules };
 
-    ghost wholeYear = { λ source location slot year zs there.
+    ghost whole_year = { λ source location slot year zs there.
         proxied_whole (λ l. S.HourSource.prices source.below l slot year) (S.HourSource.hours source.below slot year)
-        (λ l. S.HourSource.wholeYear source.below l slot year) (λ l ws h. S.HourSource.smallPrices source.below l slot year ws h) S.HourSource.locations location zs there };
+        (λ l. S.HourSource.whole_year source.below l slot year) (λ l ws h. S.HourSource.small_prices source.below l slot year ws h) S.HourSource.locations location zs there };
 
-    ghost emptyYear = { λ source location slot year none.
+    ghost empty_year = { λ source location slot year none.
         proxied_empty (λ l. S.HourSource.prices source.below l slot year) (S.HourSource.hours source.below slot year)
-        (λ l. S.HourSource.wholeYear source.below l slot year) (λ l ws h. S.HourSource.smallPrices source.below l slot year ws h) S.HourSource.locations location
-        (λ l. S.HourSource.emptyYear source.below l slot year none) };
+        (λ l. S.HourSource.whole_year source.below l slot year) (λ l ws h. S.HourSource.small_prices source.below l slot year ws h) S.HourSource.locations location
+        (λ l. S.HourSource.empty_year source.below l slot year none) };
 
-    ghost smallPrices = { λ source location slot year zs hour there.
+    ghost small_prices = { λ source location slot year zs hour there.
         proxied_small (λ l. S.HourSource.prices source.below l slot year) (S.HourSource.hours source.below slot year)
-        (λ l. S.HourSource.wholeYear source.below l slot year) (λ l ws h. S.HourSource.smallPrices source.below l slot year ws h) S.HourSource.locations location zs hour there };
+        (λ l. S.HourSource.whole_year source.below l slot year) (λ l ws h. S.HourSource.small_prices source.below l slot year ws h) S.HourSource.locations location zs hour there };
 
     fn location_count() -> u8 {
         S::location_count()

@@ -56,18 +56,18 @@ pub trait HourSource {
     }
 
     /// At least one location is known, and at most 64.
-    ghost someLocation: { 1 ≤ locations };
+    ghost some_location: { 1 ≤ locations };
 
-    ghost fewLocations: { locations ≤ 64 };
+    ghost few_locations: { locations ≤ 64 };
 
     /// No year has more than 9,000 hours.
-    ghost fewHours: { (source : Self) (slot : Slot) (year : ℕ) → hours source slot year ≤ 9000 };
+    ghost few_hours: { (source : Self) (slot : Slot) (year : ℕ) → hours source slot year ≤ 9000 };
 
     /// A location has a price for every hour of a year, or none at all; and none where the year has no hours.
-    ghost wholeYear: { (source : Self) (location : ℕ) (slot : Slot) (year : ℕ) (zs : List ℤ) → prices source location slot year ≡ Some zs → length zs ≡ hours source slot year };
+    ghost whole_year: { (source : Self) (location : ℕ) (slot : Slot) (year : ℕ) (zs : List ℤ) → prices source location slot year ≡ Some zs → length zs ≡ hours source slot year };
 
-    ghost emptyYear: { (source : Self) (location : ℕ) (slot : Slot) (year : ℕ) → hours source slot year ≡ 0 → prices source location slot year ≡ None };
+    ghost empty_year: { (source : Self) (location : ℕ) (slot : Slot) (year : ℕ) → hours source slot year ≡ 0 → prices source location slot year ≡ None };
 
     /// A price is within 200,000 cents either way.
-    ghost smallPrices: { (source : Self) (location : ℕ) (slot : Slot) (year : ℕ) (zs : List ℤ) (hour : ℕ) → prices source location slot year ≡ Some zs → Within 200000 (slice_index_or zs hour (pos 0)) };
+    ghost small_prices: { (source : Self) (location : ℕ) (slot : Slot) (year : ℕ) (zs : List ℤ) (hour : ℕ) → prices source location slot year ≡ Some zs → Within 200000 (slice_index_or zs hour (pos 0)) };
 }

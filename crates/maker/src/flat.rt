@@ -36,17 +36,17 @@ impl HourSource for Flat {
 
     ghost prices = { λ source location slot year. Some (replicate 24 source.price) };
 
-    ghost someLocation = { first_of (Prim.search rules, Prim.grind (arith, Self.row.coded.inj)) };
+    ghost some_location = { first_of (Prim.search rules, Prim.grind (arith, Self.row.coded.inj)) };
 
-    ghost fewLocations = { first_of (Prim.search rules, Prim.grind (arith, Self.row.coded.inj)) };
+    ghost few_locations = { first_of (Prim.search rules, Prim.grind (arith, Self.row.coded.inj)) };
 
-    ghost fewHours = { first_of (Prim.search rules, Prim.grind (arith, Self.row.coded.inj)) };
+    ghost few_hours = { first_of (Prim.search rules, Prim.grind (arith, Self.row.coded.inj)) };
 
-    ghost wholeYear = { first_of (Prim.search rules, Prim.grind (arith, Self.row.coded.inj)) };
+    ghost whole_year = { first_of (Prim.search rules, Prim.grind (arith, Self.row.coded.inj)) };
 
-    ghost emptyYear = { first_of (Prim.search rules, Prim.grind (arith, Self.row.coded.inj)) };
+    ghost empty_year = { first_of (Prim.search rules, Prim.grind (arith, Self.row.coded.inj)) };
 
-    ghost smallPrices = { first_of (Prim.search rules, Prim.grind (arith, Self.row.coded.inj)) };
+    ghost small_prices = { first_of (Prim.search rules, Prim.grind (arith, Self.row.coded.inj)) };
 
     fn location_count() -> u8 {
         Self::LOCATIONS

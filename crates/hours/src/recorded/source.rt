@@ -1,6 +1,6 @@
 //! Recorded hours as an hour source.
 ghost use Rattle.hours.specs.RecordedFormat.{recorded_hours, recorded_prices};
-ghost use Rattle.hours.specs.RecordedAnswers.{few_hours, whole_year, empty_year, small_prices};
+ghost use Rattle.hours.specs.RecordedAnswers.{few_hours_lem, whole_year_lem, empty_year_lem, small_prices_lem};
 ghost use Rattle.std.proofs.Common.{rules, arith};
 
 use super::entry::{RECORDED_LOCATIONS, hours_by};
@@ -21,17 +21,17 @@ impl HourSource for Recorded {
 
     ghost prices = { λ source location slot year. recorded_prices source.numbers.items location slot year };
 
-    ghost someLocation = { first_of (Prim.search rules, Prim.grind (arith, Self.row.coded.inj)) };
+    ghost some_location = { first_of (Prim.search rules, Prim.grind (arith, Self.row.coded.inj)) };
 
-    ghost fewLocations = { first_of (Prim.search rules, Prim.grind (arith, Self.row.coded.inj)) };
+    ghost few_locations = { first_of (Prim.search rules, Prim.grind (arith, Self.row.coded.inj)) };
 
-    ghost fewHours = { unfold recorded_hours recorded_prices in λ source slot year. few_hours source.numbers.items slot year };
+    ghost few_hours = { unfold recorded_hours recorded_prices in λ source slot year. few_hours_lem source.numbers.items slot year };
 
-    ghost wholeYear = { unfold recorded_hours recorded_prices in λ source location slot year zs e. whole_year source.numbers.items location slot year zs e };
+    ghost whole_year = { unfold recorded_hours recorded_prices in λ source location slot year zs e. whole_year_lem source.numbers.items location slot year zs e };
 
-    ghost emptyYear = { unfold recorded_hours recorded_prices in λ source location slot year z. empty_year source.numbers.items location slot year z };
+    ghost empty_year = { unfold recorded_hours recorded_prices in λ source location slot year z. empty_year_lem source.numbers.items location slot year z };
 
-    ghost smallPrices = { unfold recorded_hours recorded_prices in λ source location slot year zs hour e. small_prices source.numbers.items location slot year zs hour e };
+    ghost small_prices = { unfold recorded_hours recorded_prices in λ source location slot year zs hour e. small_prices_lem source.numbers.items location slot year zs hour e };
 
     fn location_count() -> u8 {
         Self::LOCATIONS

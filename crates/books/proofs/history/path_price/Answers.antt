@@ -22,7 +22,7 @@ both g self p s = path_years (year_of g.S.HourSource.locations (g.S.HourSource.p
 read : (g : given.Over) (self : g.row.S.Denot) (p : Path) (s : Slot) (first second : ℤ × ℕ) (recent distant : List ℤ) → ◌≡◌ {A = Result ((ℤ × ℕ) × (ℤ × ℕ)) Fault} (Ok (first, second)) (summed_years (both g self p s)) → LostIn (both g self p s) recent distant → Read (both g self p s) first second recent distant
 read g self p s first second recent distant answer after =
     let m = g.met.S.HourSource in
-    read_both (g.S.HourSource.hours self) g.S.HourSource.locations (g.S.HourSource.prices self) (record { few = m.fewHours self; whole = m.wholeYear self; empty = m.emptyYear self; small = m.smallPrices self }) p s first second recent distant answer after
+    read_both (g.S.HourSource.hours self) g.S.HourSource.locations (g.S.HourSource.prices self) (record { few = m.few_hours self; whole = m.whole_year self; empty = m.empty_year self; small = m.small_prices self }) p s first second recent distant answer after
 
 pub returns-in-err-first : goal.returns-in-err-first
 returns-in-err-first g c =

@@ -20,7 +20,7 @@ year g self l s y = year_of g.S.HourSource.locations (g.S.HourSource.prices self
 known : (g : given.Over) (self : g.row.S.Denot) (l : ℕ) (s : Slot) (y : ℕ) (zs : List ℤ) → year g self l s y ≡ Ok zs → There (g.S.HourSource.hours self s y) zs
 known g self l s y zs e =
     let m = g.met.S.HourSource in
-    there (g.S.HourSource.hours self) g.S.HourSource.locations (g.S.HourSource.prices self) (record { few = m.fewHours self; whole = m.wholeYear self; empty = m.emptyYear self; small = m.smallPrices self }) l s y zs e
+    there (g.S.HourSource.hours self) g.S.HourSource.locations (g.S.HourSource.prices self) (record { few = m.few_hours self; whole = m.whole_year self; empty = m.empty_year self; small = m.small_prices self }) l s y zs e
 
 -- both years of the path
 abbrev both : (g : given.Over) → g.row.S.Denot → Path → Slot → Result (List ℤ × List ℤ) Fault

@@ -9,7 +9,7 @@ use Rattle.books.proofs.history.year_between.Given as given
 use Rattle.books.proofs.history.year_between.Goals as goal
 
 laws : (g : given.Over) (self : g.row.S.Denot) → Laws (g.S.HourSource.hours self) (g.S.HourSource.prices self)
-laws g self = record { few = g.met.S.HourSource.fewHours self; whole = g.met.S.HourSource.wholeYear self; empty = g.met.S.HourSource.emptyYear self; small = g.met.S.HourSource.smallPrices self }
+laws g self = record { few = g.met.S.HourSource.few_hours self; whole = g.met.S.HourSource.whole_year self; empty = g.met.S.HourSource.empty_year self; small = g.met.S.HourSource.small_prices self }
 
 -- the year of the sink
 abbrev year : (g : given.Over) → g.row.S.Denot → ℕ → Slot → ℕ → Result (List ℤ) Fault

@@ -2,7 +2,7 @@ use Rattle.std.proofs.Common.{◌≡◌, ◌<◌, ◌++◌, length, ℤ, pos, ne
 use Rattle.std.proofs.lemmas.List.{length-append}
 use Rattle.std.proofs.lemmas.Int.{ints}
 use Rattle.std.specs.Int.{int_min, int_max}
-use Rattle.std.specs.List.{AllByRecursion as All}
+use Rattle.std.specs.List.{AllByRecursion}
 use Rattle.books.proofs.Counts.{below_fails, failed, fails_below, top_reaches, percentile_is, below_next, middle_from, middle_is, middle_to, next_from, next_to, passed_as, reaches_as, lows, highs, spread}
 use Rattle.books.proofs.percentile.bisect.Goals as goal
 
@@ -17,8 +17,8 @@ loop-low-init c =
     omega (arith, ints) ∙ c.lowest-low.ensures ∙ ap (λ (z : ℤ). fold int_min z second) {y = fold int_min (pos 2147483647) first} (omega (arith, ints) ∙ c.lowest.ensures) in
     let most : high ≡ fold int_max (fold int_max (negsuc 2147483647) first) second =
     omega (arith, ints) ∙ c.highest-high.ensures ∙ ap (λ (z : ℤ). fold int_max z second) {y = fold int_max (negsuc 2147483647) first} (omega (arith, ints) ∙ c.highest.ensures) in
-    let all : All (λ x. low ≤ℤ x) xs = subst (λ (z : ℤ). All (λ x. z ≤ℤ x) xs) (sym least) (lows (pos 2147483647) first second) in
-    let none : All (λ x. x ≤ℤ high) xs = subst (λ (z : ℤ). All (λ x. x ≤ℤ z) xs) (sym most) (highs (negsuc 2147483647) first second) in
+    let all : AllByRecursion (λ x. low ≤ℤ x) xs = subst (λ (z : ℤ). AllByRecursion (λ x. z ≤ℤ x) xs) (sym least) (lows (pos 2147483647) first second) in
+    let none : AllByRecursion (λ x. x ≤ℤ high) xs = subst (λ (z : ℤ). AllByRecursion (λ x. x ≤ℤ z) xs) (sym most) (highs (negsuc 2147483647) first second) in
     let some : 0 < length xs = omega (arith, length-append first second) in
     (omega (arith, ints), spread low high xs some all none, omega (arith, ints), top_reaches c.args.p xs high c.requires.high none, λ w l. below_fails c.args.p xs low w c.requires.low some all l)
 

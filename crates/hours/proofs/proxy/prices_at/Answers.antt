@@ -14,7 +14,7 @@ loop-location-preserved g c =
       | in-Ok w ↦
           let s = sum_more answers c.loop-location.location (Ok w.in-Ok.price) w.in-Ok.ensures in
           let n = number_more answers c.loop-location.location (Ok w.in-Ok.price) w.in-Ok.ensures in
-          let b = priced_small g.S.HourSource.locations (g.S.HourSource.prices c.args.below.now) (g.met.S.HourSource.smallPrices c.args.below.now) c.loop-location.location c.args.slot c.args.year c.args.hour w.in-Ok.price w.in-Ok.ensures in
+          let b = priced_small g.S.HourSource.locations (g.S.HourSource.prices c.args.below.now) (g.met.S.HourSource.small_prices c.args.below.now) c.loop-location.location c.args.slot c.args.year c.args.hour w.in-Ok.price w.in-Ok.ensures in
           let low = b.0 in
           let high = b.1 in
           (omega (arith, ints), omega (arith, ints), omega (arith, ints), omega (arith, ints), omega (arith, ints))

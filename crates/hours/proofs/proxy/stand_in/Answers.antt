@@ -29,7 +29,7 @@ answers : (g : given.Over) (below : g.row.S.Denot) (s : Slot) (y hour asked : �
     × (number_of (λ l. priced g.S.HourSource.locations (g.S.HourSource.prices below) l s y asked) g.S.HourSource.locations ≡ having (years g below s y) g.S.HourSource.locations)
 answers g below s y hour asked lawful past e =
     answers_are g.S.HourSource.locations (g.S.HourSource.prices below) s y asked (sym lawful) (sym past)
-    (λ l zs there. inside hour (g.S.HourSource.hours below s y) asked e (g.S.HourSource.prices below l s y) (g.met.S.HourSource.wholeYear below l s y) (g.met.S.HourSource.emptyYear below l s y) zs there)
+    (λ l zs there. inside hour (g.S.HourSource.hours below s y) asked e (g.S.HourSource.prices below l s y) (g.met.S.HourSource.whole_year below l s y) (g.met.S.HourSource.empty_year below l s y) zs there)
     g.S.HourSource.locations (omega arith)
 
 -- what the steps of the function found, in terms of the years below
@@ -72,9 +72,9 @@ returns-then-hour-count g c =
 sums : (g : given.Over) (below : g.row.S.Denot) (s : Slot) (y asked : ℕ) (sum : ℤ) (number : ℕ) → sum ≡ sum_at (years g below s y) asked g.S.HourSource.locations → number ≡ having (years g below s y) g.S.HourSource.locations →
     (number ≤ 64) × Within (200000 * number) sum
 sums g below s y asked sum number total many =
-    let w = within_sum (years g below s y) (g.S.HourSource.hours below s y) (λ l. g.met.S.HourSource.wholeYear below l s y) (λ l zs h. g.met.S.HourSource.smallPrices below l s y zs h) asked g.S.HourSource.locations in
-    let few = few_having (years g below s y) (g.S.HourSource.hours below s y) (λ l. g.met.S.HourSource.wholeYear below l s y) (λ l zs h. g.met.S.HourSource.smallPrices below l s y zs h) g.S.HourSource.locations in
-    let most = g.met.S.HourSource.fewLocations in
+    let w = within_sum (years g below s y) (g.S.HourSource.hours below s y) (λ l. g.met.S.HourSource.whole_year below l s y) (λ l zs h. g.met.S.HourSource.small_prices below l s y zs h) asked g.S.HourSource.locations in
+    let few = few_having (years g below s y) (g.S.HourSource.hours below s y) (λ l. g.met.S.HourSource.whole_year below l s y) (λ l zs h. g.met.S.HourSource.small_prices below l s y zs h) g.S.HourSource.locations in
+    let most = g.met.S.HourSource.few_locations in
     (omega arith, subst (λ (n : ℕ). Within (200000 * n) sum) (sym many) (subst (Within (200000 * having (years g below s y) g.S.HourSource.locations)) (sym total) w))
 
 pub mean_down-requires : goal.mean_down-requires

@@ -18,11 +18,11 @@ year g self l s y = year_of g.Self.HourSource.locations (g.Self.HourSource.price
 facts : (g : given.Over) (self : g.row.Self.Denot) (l : ℕ) (s : Slot) (y : ℕ) (zs : List ℤ) → year g self l s y ≡ Ok zs →
     (length zs ≡ g.Self.HourSource.hours self s y) × (0 < g.Self.HourSource.hours self s y) × (counted (g.Self.HourSource.hours self) s y ≡ Ok (g.Self.HourSource.hours self s y))
 facts g self l s y zs e =
-    year_facts g.Self.HourSource.locations (g.Self.HourSource.hours self) (g.Self.HourSource.prices self) (g.met.Self.HourSource.wholeYear self) (g.met.Self.HourSource.emptyYear self) l s y zs e
+    year_facts g.Self.HourSource.locations (g.Self.HourSource.hours self) (g.Self.HourSource.prices self) (g.met.Self.HourSource.whole_year self) (g.met.Self.HourSource.empty_year self) l s y zs e
 
 -- a price of the year that is asked for
 priced_small : (g : given.Over) (self : g.row.Self.Denot) (l : ℕ) (s : Slot) (y : ℕ) (zs : List ℤ) (h : ℕ) → year g self l s y ≡ Ok zs → Within 200000 (get_or zs h (pos 0))
-priced_small g self l s y zs h e = g.met.Self.HourSource.smallPrices self l s y zs h (asked g.Self.HourSource.locations (g.Self.HourSource.prices self) l s y zs e).there
+priced_small g self l s y zs h e = g.met.Self.HourSource.small_prices self l s y zs h (asked g.Self.HourSource.locations (g.Self.HourSource.prices self) l s y zs e).there
 
 pub returns-in_err-_first : goal.returns-in_err-_first
 returns-in_err-_first g c =
@@ -46,7 +46,7 @@ bounds-buffer-hour g c =
     let y : Result (List ℤ) Fault = year g c.args.self.now c.args.location c.args.slot c.args.year in
     let h = hour_there y c.args.location c.args.year c.loop-hour.hour c.in-Ok.price c.in-Ok.ensures in
     let f = facts g c.args.self.now c.args.location c.args.slot c.args.year h.0 h.1 in
-    let m = g.met.Self.HourSource.fewHours c.args.self.now c.args.slot c.args.year in
+    let m = g.met.Self.HourSource.few_hours c.args.self.now c.args.slot c.args.year in
     let b = h.2 in
     let d = f.0 in
     omega arith
@@ -56,7 +56,7 @@ loop-hour-preserved g c zs there =
     let y : Result (List ℤ) Fault = year g c.args.self.now c.args.location c.args.slot c.args.year in
     let f = facts g c.args.self.now c.args.location c.args.slot c.args.year zs there in
     let d = f.0 in
-    let m = g.met.Self.HourSource.fewHours c.args.self.now c.args.slot c.args.year in
+    let m = g.met.Self.HourSource.few_hours c.args.self.now c.args.slot c.args.year in
     elim c.match-mcc.branch [
       | in-Ok w ↦
           let h = hour_at y zs c.args.location c.args.year c.loop-hour.hour w.in-Ok.price there w.in-Ok.ensures in
