@@ -1,5 +1,5 @@
 -- What is written of numbers that the check refuses. Assumes nothing.
-use Rattle.std.proofs.Common.{◌≡◌, ℕ, List, ◌++◌, Ok, Err, codes, Result, ap, arith}
+use Rattle.std.proofs.Common.{◌≡◌, ℕ, ◌++◌, Ok, Err, codes, Result, ap, arith}
 use Rattle.hours.specs.declared.unlawful.Unlawful.{Unlawful}
 use Rattle.hours.specs.RecordedFormat.{Records, checked}
 use Rattle.tcr_hours.specs.Lines.{refused_line}

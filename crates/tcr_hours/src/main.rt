@@ -1,6 +1,7 @@
 //! Checks a file of recorded hours and says what it holds.
 //! The numbers come from the file that the one argument names, or from standard input.
 #![tactic(auto)]
+
 mod lines;
 mod listing;
 mod report;

@@ -8,7 +8,7 @@ pub loop-months-init : goal.loop-months-init
 loop-months-init c = refl
 
 pub loop-months-preserved : goal.loop-months-preserved
-loop-months-preserved c = more_in_order (period_shown (records_of (vec_items c.args.recorded.now.numbers)) c.args.first) _ _ _ 13 c.loop-months.months (omega arith) c.in-ok-push-period.ensures c.loop-months.invariant
+loop-months-preserved c = more_in_order (period_shown (records_of (vec_items c.args.recorded.now.numbers)) c.args.first) _ _ _ 13 c.loop-months.months (omega arith) c.in_ok-push_period.ensures c.loop-months.invariant
 
 pub returns : goal.returns
 returns c = all_in_order (period_shown (records_of (vec_items c.args.recorded.now.numbers)) c.args.first) _ _ 13 c.loop-months.months (omega arith) c.loop-months.invariant

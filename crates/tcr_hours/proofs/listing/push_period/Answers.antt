@@ -4,4 +4,4 @@ use Rattle.tcr_hours.proofs.Slots.{period_written}
 use Rattle.tcr_hours.proofs.listing.push_period.Goals as goal
 
 pub returns : goal.returns
-returns c = period_written (records_of (vec_items c.args.recorded.now.numbers)) c.args.period.first c.args.period.months (string_bytes c.args.out.now) (string_bytes c.push-slot.new.out) (string_bytes c.push-slot-2.new.out) c.in-ok-push-slot.ensures c.in-ok-push-slot-2.ensures
+returns c = period_written (records_of (vec_items c.args.recorded.now.numbers)) c.args.period.first c.args.period.months (string_bytes c.args.out.now) (string_bytes c.push_slot.new.out) (string_bytes c.push_slot-2.new.out) c.in_ok-push_slot.ensures c.in_ok-push_slot-2.ensures
