@@ -1,5 +1,5 @@
 -- The mean of two years, and what bounds it.
-use Rattle.std.specs.Prelude.{◌≡◌, ℕ, ◌+◌, ◌*◌, ◌<◌, ◌≤◌, ℤ, pos, ◌+ℤ◌, ◌*ℤ◌}
+use Rattle.std.specs.Prelude.{ℕ, ◌*◌, ◌<◌, ◌≤◌, ℤ, pos, ◌*ℤ◌}
 use Rattle.std.proofs.Common.{ap, subst, mul_assoc, mul_comm, mul_right_comm, mul-pos, arith}
 use Rattle.std.proofs.lemmas.Int.{ints}
 use Rattle.hours.specs.Bounds.{Within}

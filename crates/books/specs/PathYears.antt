@@ -1,5 +1,5 @@
 -- The years of a path, read from a source that keeps its laws.
-use Rattle.std.specs.Prelude.{◌≡◌, ℕ, ◌+◌, ◌*◌, ◌<◌, ◌≤◌, Bool, true, false, cond, ◌&&◌, List, ◌++◌, length, take, drop, replicate, ℤ, pos, ◌-ℤ◌, ◌*ℤ◌, neg_ℤ, IfOk, Some, None, Ok, Err, Option, Result, ◌==◌, slice_index_or, refl}
+use Rattle.std.specs.Prelude.{◌≡◌, ℕ, ◌*◌, ◌<◌, ◌≤◌, Bool, true, false, cond, ◌&&◌, List, ◌++◌, length, take, drop, replicate, ℤ, pos, ◌-ℤ◌, ◌*ℤ◌, neg_ℤ, IfOk, Some, None, Ok, Err, Option, Result, ◌==◌, slice_index_or, refl}
 use Rattle.std.proofs.Common.{sym, ap, subst, ◌∙◌, arith}
 use Rattle.std.proofs.ByRecursion.{All-append, All-drop}
 use Rattle.std.proofs.lemmas.List.{get_or-replicate, length-map, length-replicate, map-append, take_at}

@@ -1,6 +1,5 @@
 use Rattle.std.proofs.Common.{◌≡◌, ℕ, ◌<◌, ◌≤◌, ◌++◌, length, take, drop, ℤ, sym, refl, ap, ◌∙◌, subst, arith}
 use Rattle.std.proofs.lemmas.List.{length-take-le}
-use Rattle.std.proofs.lemmas.Int.{ints}
 use Rattle.hours.specs.Bounds.{Within}
 use Rattle.books.specs.Differences.{differences, total, losses}
 use Rattle.books.specs.Hourly.{difference_is, difference_kept, length_differences, loss_is, loss_more, next_is, price_kept, sum_more, total_more}

@@ -11,8 +11,8 @@ use Rattle.books.specs.PathYears.{Read, bound_err, read_both, read_price_lem, sm
 use Rattle.books.proofs.history.path_price.Given as given
 use Rattle.books.proofs.history.path_price.Goals as goal
 
-pub read-path-requires : goal.read-path-requires
-read-path-requires g c = record { recent = small_zeros 200000 9000; distant = small_zeros 200000 9000 }
+pub read_path-requires : goal.read_path-requires
+read_path-requires g c = record { recent = small_zeros 200000 9000; distant = small_zeros 200000 9000 }
 
 -- both years of the path
 abbrev both : (g : given.Over) → g.row.S.Denot → Path → Slot → Result (List ℤ × List ℤ) Fault
@@ -24,53 +24,53 @@ read g self p s first second recent distant answer after =
     let m = g.met.S.HourSource in
     read_both (g.S.HourSource.hours self) g.S.HourSource.locations (g.S.HourSource.prices self) (record { few = m.few_hours self; whole = m.whole_year self; empty = m.empty_year self; small = m.small_prices self }) p s first second recent distant answer after
 
-pub returns-in-err-first : goal.returns-in-err-first
-returns-in-err-first g c =
+pub returns-in_err-first : goal.returns-in_err-first
+returns-in_err-first g c =
     let r = both g c.args.source.now c.args.path c.args.slot in
-    let x = c.in-err-first.field-0.0 in
-    let q = err_from_is_err_and c.from-residual.result c.from-residual.ensures.1 in
-    let e = bound_err {B = (ℤ × ℕ) × (ℤ × ℕ)} r (λ (years : List ℤ × List ℤ). (summed years.0, summed years.1)) x c.in-err-first.ensures.answer in
+    let x = c.in_err-first.field-0.0 in
+    let q = err_from_is_err_and c.from_residual.result c.from_residual.ensures.1 in
+    let e = bound_err {B = (ℤ × ℕ) × (ℤ × ℕ)} r (λ (years : List ℤ × List ℤ). (summed years.0, summed years.1)) x c.in_err-first.ensures.answer in
     q.1 ∙ ap Err q.2 ∙ sym (ap (priced_years c.args.ahead) e)
 
-pub slice-bounds-price-from-end : goal.slice-bounds-price-from-end
-slice-bounds-price-from-end g c =
-    let first = c.in-ok-first.first in
-    let second = c.in-ok-first.second in
-    let recent = c.read-path.new.recent in
-    let distant = c.read-path.new.distant in
-    let r = read g c.args.source.now c.args.path c.args.slot first second recent distant c.in-ok-first.ensures.answer c.in-ok-first.ensures.after in
-    let few = r.first-sum.1 in
+pub slice_bounds-price_from-end : goal.slice_bounds-price_from-end
+slice_bounds-price_from-end g c =
+    let first = c.in_ok-first.first in
+    let second = c.in_ok-first.second in
+    let recent = c.read_path.new.recent in
+    let distant = c.read_path.new.distant in
+    let r = read g c.args.source.now c.args.path c.args.slot first second recent distant c.in_ok-first.ensures.answer c.in_ok-first.ensures.after in
+    let few = r.first_sum.1 in
     let end : c.from.result ≤ length recent = omega arith in
     end
 
-pub slice-bounds-price-from-end-2 : goal.slice-bounds-price-from-end-2
-slice-bounds-price-from-end-2 g c =
-    let first = c.in-ok-first.first in
-    let second = c.in-ok-first.second in
-    let recent = c.read-path.new.recent in
-    let distant = c.read-path.new.distant in
-    let r = read g c.args.source.now c.args.path c.args.slot first second recent distant c.in-ok-first.ensures.answer c.in-ok-first.ensures.after in
-    let few = r.second-sum.1 in
+pub slice_bounds-price_from-end-2 : goal.slice_bounds-price_from-end-2
+slice_bounds-price_from-end-2 g c =
+    let first = c.in_ok-first.first in
+    let second = c.in_ok-first.second in
+    let recent = c.read_path.new.recent in
+    let distant = c.read_path.new.distant in
+    let r = read g c.args.source.now c.args.path c.args.slot first second recent distant c.in_ok-first.ensures.answer c.in_ok-first.ensures.after in
+    let few = r.second_sum.1 in
     let end : c.from-2.result ≤ length distant = omega arith in
     end
 
-pub price-from-requires : goal.price-from-requires
-price-from-requires g c =
-    let first = c.in-ok-first.first in
-    let second = c.in-ok-first.second in
-    let recent = c.read-path.new.recent in
-    let distant = c.read-path.new.distant in
-    let r = read g c.args.source.now c.args.path c.args.slot first second recent distant c.in-ok-first.ensures.answer c.in-ok-first.ensures.after in
+pub price_from-requires : goal.price_from-requires
+price_from-requires g c =
+    let first = c.in_ok-first.first in
+    let second = c.in_ok-first.second in
+    let recent = c.read_path.new.recent in
+    let distant = c.read_path.new.distant in
+    let r = read g c.args.source.now c.args.path c.args.slot first second recent distant c.in_ok-first.ensures.answer c.in_ok-first.ensures.after in
     let a : take first.1 recent ≡ take (c.from.result - 0) recent = ap (λ (n : ℕ). take n recent) (omega arith) in
     let b : take second.1 distant ≡ take (c.from-2.result - 0) distant = ap (λ (n : ℕ). take n distant) (omega arith) in
     record {
       few = c.requires;
-      recent = r.first-sum;
-      distant = r.second-sum;
-      few-recent = subst (λ (xs : List ℤ). length xs ≤ 9000) a r.recent-long;
-      few-distant = subst (λ (xs : List ℤ). length xs ≤ 9000) b r.distant-long;
-      small-recent = subst (Small 400000) a r.recent-small;
-      small-distant = subst (Small 400000) b r.distant-small;
+      recent = r.first_sum;
+      distant = r.second_sum;
+      few_recent = subst (λ (xs : List ℤ). length xs ≤ 9000) a r.recent_long;
+      few_distant = subst (λ (xs : List ℤ). length xs ≤ 9000) b r.distant_long;
+      small_recent = subst (Small 400000) a r.recent_small;
+      small_distant = subst (Small 400000) b r.distant_small;
     }
 
 pub returns : goal.returns

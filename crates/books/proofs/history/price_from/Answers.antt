@@ -26,6 +26,6 @@ returns c =
     let a : to_z w64 (of_z w64 c.weighted.result) ≡ numerator recent distant = omega (arith, ints) ∙ c.weighted.ensures.value in
     let p : c.percent_by-p.result ≡ percent (numerator recent distant) = c.percent_by-p.ensures ∙ ap percent a in
     let e : to_z w64 (of_z w64 s) ≡ stress = omega (arith, ints) ∙ c.stress-hourly.ensures.value ∙ ap (λ (n : ℕ). stress_of (percentile_of n lost)) p in
-    let mean : to_z w64 (of_z w64 c.mean-ahead.result) ≡ mean_ahead h recent distant = omega (arith, ints) ∙ c.mean-ahead.ensures.value in
+    let mean : to_z w64 (of_z w64 c.mean_ahead.result) ≡ mean_ahead h recent distant = omega (arith, ints) ∙ c.mean_ahead.ensures.value in
     let times : to_z w64 (of_z w64 c.times.result) ≡ stress *ℤ pos h = omega (arith, ints) ∙ c.times.ensures ∙ ap (λ (z : ℤ). z *ℤ pos h) e in
     omega (arith, ints) ∙ c.less.ensures ∙ ap (λ (z : ℤ). z -ℤ to_z w64 (of_z w64 c.times.result)) mean ∙ ap (λ (z : ℤ). mean_ahead h recent distant -ℤ z) times

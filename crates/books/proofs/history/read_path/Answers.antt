@@ -26,65 +26,65 @@ known g self l s y zs e =
 abbrev both : (g : given.Over) → g.row.S.Denot → Path → Slot → Result (List ℤ × List ℤ) Fault
 both g self p s = path_years (year_of g.S.HourSource.locations (g.S.HourSource.prices self)) p s
 
-pub returns-in-err-fill : goal.returns-in-err-fill
-returns-in-err-fill g c =
+pub returns-in_err-fill : goal.returns-in_err-fill
+returns-in_err-fill g c =
     let self = c.args.source.now in
     let p = c.args.path in
     let s = c.args.slot in
-    let x = c.in-err-fill.field-0.0 in
-    let q = err_from_is_err_and c.from-residual.result c.from-residual.ensures.1 in
-    let e : both g self p s ≡ Err x = first_missing (years g self) p s x (filled_err (year g self p.source s 0) x c.in-err-fill.ensures.answer) in
+    let x = c.in_err-fill.field-0.0 in
+    let q = err_from_is_err_and c.from_residual.result c.from_residual.ensures.1 in
+    let e : both g self p s ≡ Err x = first_missing (years g self) p s x (filled_err (year g self p.source s 0) x c.in_err-fill.ensures.answer) in
     record { answer = q.1 ∙ ap Err q.2 ∙ sym (ap summed_years e); after = lost_none (both g self p s) x c.fill.new.buffer c.args.distant.now e }
 
-pub returns-in-err-fill-2 : goal.returns-in-err-fill-2
-returns-in-err-fill-2 g c =
+pub returns-in_err-fill-2 : goal.returns-in_err-fill-2
+returns-in_err-fill-2 g c =
     let self = c.args.source.now in
     let p = c.args.path in
     let s = c.args.slot in
-    let x = c.in-err-fill-2.field-0.0 in
-    let q = err_from_is_err_and c.from-residual-in-err-fill-2.result c.from-residual-in-err-fill-2.ensures.1 in
-    let a = filled_ok (year g self p.source s 0) _ c.in-ok-fill.ensures.answer in
-    let e : both g self p s ≡ Err x = second_missing (years g self) p s a.0 x a.1 (filled_err (year g self p.source s 1) x c.in-err-fill-2.ensures.answer) in
+    let x = c.in_err-fill-2.field-0.0 in
+    let q = err_from_is_err_and c.from_residual-in_err-fill-2.result c.from_residual-in_err-fill-2.ensures.1 in
+    let a = filled_ok (year g self p.source s 0) _ c.in_ok-fill.ensures.answer in
+    let e : both g self p s ≡ Err x = second_missing (years g self) p s a.0 x a.1 (filled_err (year g self p.source s 1) x c.in_err-fill-2.ensures.answer) in
     record { answer = q.1 ∙ ap Err q.2 ∙ sym (ap summed_years e); after = lost_none (both g self p s) x c.fill.new.buffer c.fill-2.new.buffer e }
 
-pub year-between-requires : goal.year-between-requires
-year-between-requires g c =
+pub year_between-requires : goal.year_between-requires
+year_between-requires g c =
     let self = c.args.source.now in
     let s = c.args.slot in
     let l = c.args.path.source in
-    subst (Small 200000) (sym c.in-ok-fill.ensures.after) (small_written 200000 (year g self l s 0) _ (λ zs e. (known g self l s 0 zs e).small) c.requires.recent)
+    subst (Small 200000) (sym c.in_ok-fill.ensures.after) (small_written 200000 (year g self l s 0) _ (λ zs e. (known g self l s 0 zs e).small) c.requires.recent)
 
-pub returns-in-err-first : goal.returns-in-err-first
-returns-in-err-first g c =
+pub returns-in_err-first : goal.returns-in_err-first
+returns-in_err-first g c =
     let self = c.args.source.now in
     let p = c.args.path in
     let s = c.args.slot in
-    let x = c.in-err-first.field-0.0 in
-    let q = err_from_is_err_and c.from-residual-in-err-first.result c.from-residual-in-err-first.ensures.1 in
-    let a = filled_ok (year g self p.source s 0) _ c.in-ok-fill.ensures.answer in
-    let b = filled_ok (year g self p.source s 1) _ c.in-ok-fill-2.ensures.answer in
-    let e : both g self p s ≡ Err x = third_missing (years g self) p s a.0 b.0 x a.1 b.1 (gained_err (year g self p.sink s 0) _ x c.in-err-first.ensures.answer) in
-    record { answer = q.1 ∙ ap Err q.2 ∙ sym (ap summed_years e); after = lost_none (both g self p s) x c.year-between.new.prices c.fill-2.new.buffer e }
+    let x = c.in_err-first.field-0.0 in
+    let q = err_from_is_err_and c.from_residual-in_err-first.result c.from_residual-in_err-first.ensures.1 in
+    let a = filled_ok (year g self p.source s 0) _ c.in_ok-fill.ensures.answer in
+    let b = filled_ok (year g self p.source s 1) _ c.in_ok-fill-2.ensures.answer in
+    let e : both g self p s ≡ Err x = third_missing (years g self) p s a.0 b.0 x a.1 b.1 (gained_err (year g self p.sink s 0) _ x c.in_err-first.ensures.answer) in
+    record { answer = q.1 ∙ ap Err q.2 ∙ sym (ap summed_years e); after = lost_none (both g self p s) x c.year_between.new.prices c.fill-2.new.buffer e }
 
-pub year-between-requires-2 : goal.year-between-requires-2
-year-between-requires-2 g c =
+pub year_between-requires-2 : goal.year_between-requires-2
+year_between-requires-2 g c =
     let self = c.args.source.now in
     let s = c.args.slot in
     let l = c.args.path.source in
-    subst (Small 200000) (sym c.in-ok-fill-2.ensures.after) (small_written 200000 (year g self l s 1) _ (λ zs e. (known g self l s 1 zs e).small) c.requires.distant)
+    subst (Small 200000) (sym c.in_ok-fill-2.ensures.after) (small_written 200000 (year g self l s 1) _ (λ zs e. (known g self l s 1 zs e).small) c.requires.distant)
 
-pub returns-in-err-second : goal.returns-in-err-second
-returns-in-err-second g c =
+pub returns-in_err-second : goal.returns-in_err-second
+returns-in_err-second g c =
     let self = c.args.source.now in
     let p = c.args.path in
     let s = c.args.slot in
-    let x = c.in-err-second.field-0.0 in
-    let q = err_from_is_err_and c.from-residual-in-err-second.result c.from-residual-in-err-second.ensures.1 in
-    let a = filled_ok (year g self p.source s 0) _ c.in-ok-fill.ensures.answer in
-    let b = filled_ok (year g self p.source s 1) _ c.in-ok-fill-2.ensures.answer in
-    let d = gained_ok (year g self p.sink s 0) _ _ c.in-ok-first.ensures.answer in
-    let e : both g self p s ≡ Err x = fourth_missing (years g self) p s a.0 b.0 d.0 x a.1 b.1 d.1 (gained_err (year g self p.sink s 1) _ x c.in-err-second.ensures.answer) in
-    record { answer = q.1 ∙ ap Err q.2 ∙ sym (ap summed_years e); after = lost_none (both g self p s) x c.year-between.new.prices c.year-between-2.new.prices e }
+    let x = c.in_err-second.field-0.0 in
+    let q = err_from_is_err_and c.from_residual-in_err-second.result c.from_residual-in_err-second.ensures.1 in
+    let a = filled_ok (year g self p.source s 0) _ c.in_ok-fill.ensures.answer in
+    let b = filled_ok (year g self p.source s 1) _ c.in_ok-fill-2.ensures.answer in
+    let d = gained_ok (year g self p.sink s 0) _ _ c.in_ok-first.ensures.answer in
+    let e : both g self p s ≡ Err x = fourth_missing (years g self) p s a.0 b.0 d.0 x a.1 b.1 d.1 (gained_err (year g self p.sink s 1) _ x c.in_err-second.ensures.answer) in
+    record { answer = q.1 ∙ ap Err q.2 ∙ sym (ap summed_years e); after = lost_none (both g self p s) x c.year_between.new.prices c.year_between-2.new.prices e }
 
 -- the source's prices stand at the front of their buffer, as many as the sink has
 front : (g : given.Over) (self : g.row.S.Denot) (p : Path) (s : Slot) (y : ℕ) (xs zs buffer out : List ℤ) → year g self p.source s y ≡ Ok xs → year g self p.sink s y ≡ Ok zs → out ≡ written (year g self p.source s y) buffer → take (length zs) out ≡ xs
@@ -101,15 +101,15 @@ returns g c =
     let a = filled_ok (year g self p.source s 0) _ c.in_ok-fill.ensures.answer in
     let b = filled_ok (year g self p.source s 1) _ c.in_ok-fill-2.ensures.answer in
     let d = gained_ok (year g self p.sink s 0) recent c.in_ok-first.first c.in_ok-first.ensures.answer in
-    let f = gained_ok (year g self p.sink s 1) distant c.in-ok-second.second c.in-ok-second.ensures.answer in
+    let f = gained_ok (year g self p.sink s 1) distant c.in_ok-second.second c.in_ok-second.ensures.answer in
     let h = front g self p s 0 a.0 d.0 _ recent a.1 d.1 c.in_ok-fill.ensures.after in
     let k = front g self p s 1 b.0 f.0 _ distant b.1 f.1 c.in_ok-fill-2.ensures.after in
     let first : c.in_ok-first.first ≡ summed (differences d.0 a.0) = d.2 ∙ ap (λ (xs : List ℤ). summed (differences d.0 xs)) h in
-    let second : c.in-ok-second.second ≡ summed (differences f.0 b.0) = f.2 ∙ ap (λ (xs : List ℤ). summed (differences f.0 xs)) k in
+    let second : c.in_ok-second.second ≡ summed (differences f.0 b.0) = f.2 ∙ ap (λ (xs : List ℤ). summed (differences f.0 xs)) k in
     let e : both g self p s ≡ Ok (differences d.0 a.0, differences f.0 b.0) = all_there (years g self) p s a.0 b.0 d.0 f.0 a.1 b.1 d.1 f.1 in
     record {
-      answer = ap (λ (y : ℤ × ℕ). Ok (y, c.in-ok-second.second)) first ∙ ap (λ (y : ℤ × ℕ). Ok (summed (differences d.0 a.0), y)) second ∙ sym (ap summed_years e);
-      after = lost_both (both g self p s) (differences d.0 a.0) (differences f.0 b.0) c.year-between.new.prices c.year-between-2.new.prices e
-          (losses_at_front (year g self p.sink s 0) d.0 recent a.0 c.year-between.new.prices d.1 c.in_ok-first.ensures.after h)
-          (losses_at_front (year g self p.sink s 1) f.0 distant b.0 c.year-between-2.new.prices f.1 c.in-ok-second.ensures.after k);
+      answer = ap (λ (y : ℤ × ℕ). Ok (y, c.in_ok-second.second)) first ∙ ap (λ (y : ℤ × ℕ). Ok (summed (differences d.0 a.0), y)) second ∙ sym (ap summed_years e);
+      after = lost_both (both g self p s) (differences d.0 a.0) (differences f.0 b.0) c.year_between.new.prices c.year_between-2.new.prices e
+          (losses_at_front (year g self p.sink s 0) d.0 recent a.0 c.year_between.new.prices d.1 c.in_ok-first.ensures.after h)
+          (losses_at_front (year g self p.sink s 1) f.0 distant b.0 c.year_between-2.new.prices f.1 c.in_ok-second.ensures.after k);
     }

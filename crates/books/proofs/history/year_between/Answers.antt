@@ -15,11 +15,11 @@ laws g self = record { few = g.met.S.HourSource.few_hours self; whole = g.met.S.
 abbrev year : (g : given.Over) → g.row.S.Denot → ℕ → Slot → ℕ → Result (List ℤ) Fault
 year g self l s y = year_of g.S.HourSource.locations (g.S.HourSource.prices self) l s y
 
-pub returns-in-err-n : goal.returns-in-err-n
-returns-in-err-n g c =
-    let p = err_from_is_err_and c.from-residual.result c.from-residual.ensures.1 in
+pub returns-in_err-n : goal.returns-in_err-n
+returns-in_err-n g c =
+    let p = err_from_is_err_and c.from_residual.result c.from_residual.ensures.1 in
     let y = year g c.args.source.now c.args.sink c.args.slot c.args.year in
-    let e = filled_err y c.in-err-n.field-0.0 c.in-err-n.ensures.answer in
+    let e = filled_err y c.in_err-n.field-0.0 c.in_err-n.ensures.answer in
     record {
       answer = p.1 ∙ ap Err p.2 ∙ sym (ap (λ (r : Result (List ℤ) Fault). gained r c.args.prices.now) e);
       after = sym (ap (λ (r : Result (List ℤ) Fault). lost r c.args.prices.now) e);

@@ -3,8 +3,8 @@ use Rattle.std.proofs.lemmas.Int.{ints}
 use Rattle.books.specs.Products.{within_times}
 use Rattle.books.proofs.mean.times.Goals as goal
 
-pub overflow-mul-result : goal.overflow-mul-result
-overflow-mul-result c =
+pub overflow_mul-result : goal.overflow_mul-result
+overflow_mul-result c =
     let z = c.args.z in
     let n = c.args.n in
     let wide = to_z w64 (of_z w64 c.from.result) in

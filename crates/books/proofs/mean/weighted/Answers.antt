@@ -1,7 +1,6 @@
 use Rattle.std.proofs.Common.{◌≡◌, ℤ, pos, ◌+ℤ◌, ◌*ℤ◌, sym, ap, ◌∙◌, subst, arith, w64, to_z, of_z}
 use Rattle.std.proofs.lemmas.Int.{ints}
 use Rattle.hours.specs.Bounds.{Within}
-use Rattle.books.specs.Histories.{numerator}
 use Rattle.books.specs.Fractions.{crossed}
 use Rattle.books.proofs.mean.weighted.Goals as goal
 

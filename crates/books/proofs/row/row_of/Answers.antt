@@ -4,8 +4,8 @@ use Rattle.books.specs.Keys.{same_key}
 use Rattle.books.specs.declared.row.Row.{Row}
 use Rattle.books.proofs.row.row_of.Goals as goal
 
-pub returns-then-same-key : goal.returns-then-same-key
-returns-then-same-key c = first_here (λ (r : Row). same_key r.key c.args.key) c.args.rows.now c.loop-row.row-index _ c.loop-row-test.true c.if-same-key.ensures ∙ c.loop-row.invariant
+pub returns-then-same_key : goal.returns-then-same_key
+returns-then-same_key c = first_here (λ (r : Row). same_key r.key c.args.key) c.args.rows.now c.loop-row.row-index _ c.loop-row-test.true c.if-same_key.ensures ∙ c.loop-row.invariant
 
 pub loop-row-preserved : goal.loop-row-preserved
 loop-row-preserved c = first_on (λ (r : Row). same_key r.key c.args.key) c.args.rows.now c.loop-row.row-index _ c.loop-row-test.true c.if-same_key.ensures ∙ c.loop-row.invariant
