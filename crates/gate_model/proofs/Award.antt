@@ -75,7 +75,7 @@ bid_within s k d w x key points price i e b l h =
     let v = value_ahead o r b.ahead in
     let q = ap (λ j. j.requirement) e in
     let a = bid_award price points w x l in
-    let m : ((pos 12 *ℤ (pos w *ℤ max0 x)) -ℤ (pos 12 *ℤ (pos w *ℤ price))) ≤ℤ (item_at k s.items).requirement = subst (λ z. ((pos 12 *ℤ (pos w *ℤ max0 x)) -ℤ (pos 12 *ℤ (pos w *ℤ price))) ≤ℤ z) (sym b.requirement-is ∙ q) a in
+    let m : ((pos 12 *ℤ (pos w *ℤ max0 x)) -ℤ (pos 12 *ℤ (pos w *ℤ price))) ≤ℤ (item_at k s.items).requirement = subst (λ z. ((pos 12 *ℤ (pos w *ℤ max0 x)) -ℤ (pos 12 *ℤ (pos w *ℤ price))) ≤ℤ z) (sym b.requirement_is ∙ q) a in
     subst (Holds o ((bought (settled s k) c key price w x).accounts d)) (sym (one_more o d s.rights r (pos 12 *ℤ (pos w *ℤ price)) v))
     (cleared_within o c d key.slot.period (pos w *ℤ max0 x) (item_at k s.items).requirement (pos 12 *ℤ (pos w *ℤ price)) (values o d s.rights) (s.accounts d) b.ahead m h)
 
@@ -106,7 +106,7 @@ offer_within s k d w n x points i e b l some enough h =
     let a = offer_award r.price r.original points w x l in
     let z = (item_at k s.items).requirement in
     let m : ((pos 12 *ℤ sale_cost r.original w x) -ℤ neg_ℤ (pos 12 *ℤ (pos w *ℤ r.price))) ≤ℤ z =
-    minus_neg (pos 12 *ℤ sale_cost r.original w x) (pos 12 *ℤ (pos w *ℤ r.price)) z (subst (λ y. ((pos 12 *ℤ sale_cost r.original w x) +ℤ (pos 12 *ℤ (pos w *ℤ r.price))) ≤ℤ y) (sym b.requirement-is ∙ q) a) in
+    minus_neg (pos 12 *ℤ sale_cost r.original w x) (pos 12 *ℤ (pos w *ℤ r.price)) z (subst (λ y. ((pos 12 *ℤ sale_cost r.original w x) +ℤ (pos 12 *ℤ (pos w *ℤ r.price))) ≤ℤ y) (sym b.requirement_is ∙ q) a) in
     let f = λ (t : Right). mine t.owner d (value_left o t) in
     let v1 : f r ≡ worth_to c d r.price r.megawatts = ap (mine r.owner d) (value_ahead o r b.ahead) ∙ ap (λ y. mine y d (pos 12 *ℤ (pos r.megawatts *ℤ r.price))) own in
     let v2 : f (less w r) ≡ worth_to c d r.price (r.megawatts - w) = ap (mine r.owner d) (value_ahead o (less w r) (record { lawful = b.ahead.lawful; begins = b.ahead.begins })) ∙ ap (λ y. mine y d (pos 12 *ℤ (pos (r.megawatts - w) *ℤ r.price))) own in
@@ -140,7 +140,7 @@ conversion_within s k d parts i e b h =
     let c = (item_at k s.items).owner in
     let q = ap (λ j. j.requirement) e in
     let t = sum_z (λ l. worth l.megawatts l.price) parts in
-    let m : neg_ℤ t ≤ℤ (item_at k s.items).requirement = subst (λ z. neg_ℤ t ≤ℤ z) (sym b.requirement-is ∙ q) (conversion_award parts) in
+    let m : neg_ℤ t ≤ℤ (item_at k s.items).requirement = subst (λ z. neg_ℤ t ≤ℤ z) (sym b.requirement_is ∙ q) (conversion_award parts) in
     let a = sum_z-append (λ r. mine r.owner d (value_left o r)) s.rights (rights_of s.given c parts) in
     let v = a ∙ ap (λ x. values o d s.rights +ℤ x) (many_more s.prices o c d s.given parts b.each) in
     subst (Holds o ((settled s k).accounts d)) (sym v) (settled_within o c d (item_at k s.items).requirement t (values o d s.rights) (s.accounts d) m h)

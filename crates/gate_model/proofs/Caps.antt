@@ -37,9 +37,9 @@ abbrev pub Capped : State → Type 0
 Capped s = (c : ℕ) → (unsettled s.month (s.accounts c) +ℤ may_add c s.items) ≤ℤ pos (10 ^ 16)
 
 greatest_above : (p : Prices) (o : ℕ) (rights : List Right) (i : Item) (b : Body) → BodyBacked p o rights i b → pos 0 ≤ℤ i.greatest
-greatest_above p o rights i (bid key points price) h = subst (λ v. pos 0 ≤ℤ v) (sym h.greatest-is) (most_above _ points)
-greatest_above p o rights i (offer k points) h = subst (λ v. pos 0 ≤ℤ v) (sym h.greatest-is) (most_above _ points)
-greatest_above p o rights i (conversion parts) h = subst (λ v. pos 0 ≤ℤ v) (sym h.greatest-is) (omega (arith, ints))
+greatest_above p o rights i (bid key points price) h = subst (λ v. pos 0 ≤ℤ v) (sym h.greatest_is) (most_above _ points)
+greatest_above p o rights i (offer k points) h = subst (λ v. pos 0 ≤ℤ v) (sym h.greatest_is) (most_above _ points)
+greatest_above p o rights i (conversion parts) h = subst (λ v. pos 0 ≤ℤ v) (sym h.greatest_is) (omega (arith, ints))
 
 may_add_above : (p : Prices) (o c : ℕ) (rights : List Right) (items : List Item) → AllByRecursion (Backed p o rights) items → pos 0 ≤ℤ may_add c items
 may_add_above p o c rights [] h = omega (arith, ints)
@@ -78,12 +78,12 @@ cleared_capped : (s : State) (k w : ℕ) (x : ℤ) (b : Body) → stands s k ≡
 cleared_capped s k w x (bid key points price) t b l h d =
     let i = item_at k s.items in
     cleared_cap s.month i.owner d key.slot.period (neg_ℤ i.requirement) (pos w *ℤ max0 x) i.greatest (may_add d s.items) (may_add d (settled s k).items) (pos (10 ^ 16)) (s.accounts d) b.ahead
-    (subst (λ v. (pos 12 *ℤ (pos w *ℤ max0 x)) ≤ℤ v) (sym b.greatest-is) (bid_cost points w x l)) (settled_sum s k (λ j. mine j.owner d j.greatest) t) (h d)
+    (subst (λ v. (pos 12 *ℤ (pos w *ℤ max0 x)) ≤ℤ v) (sym b.greatest_is) (bid_cost points w x l)) (settled_sum s k (λ j. mine j.owner d j.greatest) t) (h d)
 cleared_capped s k w x (offer n points) t b l h d =
     let i = item_at k s.items in
     let r = right_at n s.rights in
     cleared_cap s.month i.owner d r.key.slot.period (neg_ℤ i.requirement) (sale_cost r.original w x) i.greatest (may_add d s.items) (may_add d (settled s k).items) (pos (10 ^ 16)) (s.accounts d) b.ahead
-    (subst (λ v. (pos 12 *ℤ sale_cost r.original w x) ≤ℤ v) (sym b.greatest-is) (offer_cost r.original points w x l)) (settled_sum s k (λ j. mine j.owner d j.greatest) t) (h d)
+    (subst (λ v. (pos 12 *ℤ sale_cost r.original w x) ≤ℤ v) (sym b.greatest_is) (offer_cost r.original points w x l)) (settled_sum s k (λ j. mine j.owner d j.greatest) t) (h d)
 cleared_capped s k w x (conversion parts) t b l h d =
     let i = item_at k s.items in
     settled_cap s.month i.owner d (neg_ℤ i.requirement) i.greatest (may_add d s.items) (may_add d (settled s k).items) (pos (10 ^ 16)) (s.accounts d)

@@ -47,9 +47,9 @@ agree s h = record {
 }
 
 body_required : (p : Prices) (o : ℕ) (rights : List Right) (i : Item) (b : Body) → BodyBacked p o rights i b → i.requirement ≡ requirement_of rights b
-body_required p o rights i (bid key points price) h = h.requirement-is
-body_required p o rights i (offer k points) h = h.requirement-is
-body_required p o rights i (conversion parts) h = h.requirement-is
+body_required p o rights i (bid key points price) h = h.requirement_is
+body_required p o rights i (offer k points) h = h.requirement_is
+body_required p o rights i (conversion parts) h = h.requirement_is
 
 sums : (s : State) → Sound s → SumsAgree s
 sums s h = record {

@@ -81,9 +81,9 @@ commits_above k (offer j points) = cond_both (eqb j k) (pos (top 0 points)) (pos
 commits_above k (conversion parts) = omega (arith, ints)
 
 pub requirement_above : (p : Prices) (o : ℕ) (rights : List Right) (i : Item) (b : Body) → BodyBacked p o rights i b → pos 0 ≤ℤ i.requirement
-requirement_above p o rights i (bid key points price) h = subst (λ v. pos 0 ≤ℤ v) (sym h.requirement-is) (most_above _ points)
-requirement_above p o rights i (offer k points) h = subst (λ v. pos 0 ≤ℤ v) (sym h.requirement-is) (most_above _ points)
-requirement_above p o rights i (conversion parts) h = subst (λ v. pos 0 ≤ℤ v) (sym h.requirement-is) (conversion_above parts)
+requirement_above p o rights i (bid key points price) h = subst (λ v. pos 0 ≤ℤ v) (sym h.requirement_is) (most_above _ points)
+requirement_above p o rights i (offer k points) h = subst (λ v. pos 0 ≤ℤ v) (sym h.requirement_is) (most_above _ points)
+requirement_above p o rights i (conversion parts) h = subst (λ v. pos 0 ≤ℤ v) (sym h.requirement_is) (conversion_above parts)
 
 -- each item commits no more than all do
 each_commits : (bound : ℕ → ℤ) (xs : List Item) → ((k : ℕ) → committed k xs ≤ℤ bound k) → AllByRecursion (λ i. (k : ℕ) → commits_body k i.body ≤ℤ bound k) xs
@@ -138,7 +138,7 @@ rights_less p o rs items k w h l = record {
       let m : w < (right_at k rs).megawatts = omega (arith, ints) in
       subst (λ i. Serves (right_at i rs) (right_at i (lessened k w rs))) (sym e)
       (λ o2 it points b. subst (λ r. OfferBacked o2 r it points) (sym (lessened_same k w rs m))
-      record { own = b.own; requirement_is = b.requirement-is; greatest_is = b.greatest-is; ahead = b.ahead; curve = b.curve }))
+      record { own = b.own; requirement_is = b.requirement_is; greatest_is = b.greatest_is; ahead = b.ahead; curve = b.curve }))
       (λ n. serves_at _ _ (lessened_other k w j rs n))
       (cases_eq j k)) h.backed;
   covered = λ j. let c = h.covered j in ⊎_elim
