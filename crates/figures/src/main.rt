@@ -1,5 +1,6 @@
 //! Prints the worked figures, and fails where one that is only compared comes out differently.
 #![tactic(auto)]
+
 mod compared;
 mod table;
 

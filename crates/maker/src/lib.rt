@@ -1,6 +1,7 @@
 //! An hour source and a price book of a maker's own, in full: what each means, and that it answers by it.
 //! The prover needs no help with either.
 #![tactic(auto)]
+
 mod flat;
 mod one_price;
 
