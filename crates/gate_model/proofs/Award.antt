@@ -1,25 +1,25 @@
 -- An award of a standing item lowers or keeps R + S of its owner, changes nothing for others, and leaves a sound state.
-use Rattle.std.proofs.Common.{◌≡◌, ℕ, zero, suc, ◌+◌, ◌-◌, ◌*◌, ◌<◌, ◌≤◌, Bool, true, false, cond, ◌&&◌, ◌||◌, eqb, ltb, leb, ◌⊎◌, List, [], ◌∷◌, ◌++◌, length, ℤ, pos, ◌+ℤ◌, ◌-ℤ◌, ◌*ℤ◌, neg_ℤ, ◌≤ℤ◌, Ok, Err, sum_by, Result, sym, refl, ap, ◌∙◌, subst, inl, inr, ⊎_elim, arith}
+use Rattle.std.proofs.Common.{◌≡◌, ℕ, ◌+◌, ◌-◌, ◌*◌, ◌≤◌, true, false, cond, eqb, List, [], ◌∷◌, ◌++◌, ℤ, pos, ◌+ℤ◌, ◌-ℤ◌, ◌*ℤ◌, neg_ℤ, ◌≤ℤ◌, sym, refl, ap, ◌∙◌, subst, ⊎_elim, arith}
 use lib.Signed.{le_z}
 use Rattle.std.specs.List.{AllByRecursion}
 use Rattle.std.proofs.lemmas.Int.{ints}
-use Rattle.std.proofs.lemmas.Bool.{cases_Bool, cond_both, and_parts, or_cases, both_ways, eq-eqb, eqb-false, cond-true}
+use Rattle.std.proofs.lemmas.Bool.{cond_both, and_parts, or_cases, both_ways, eq-eqb, cond-true}
 use Rattle.gate_model.specs.Money.{max0}
 use Rattle.gate_model.proofs.Money.{max0_is}
 use Rattle.gate_model.specs.Sums.{sum_z}
 use Rattle.gate_model.proofs.Sums.{sum_z-append}
 use Rattle.gate_model.specs.Measures.{Prices, lawful_price}
-use Rattle.gate_model.specs.Curves.{bid_requirement, offer_requirement, conversion_requirement, worth, top, in_block}
+use Rattle.gate_model.specs.Curves.{worth, top, in_block}
 use Rattle.gate_model.specs.State.{Account, Body, bid, offer, conversion, Item, State, right_at, item_at, item_numbered, no_item}
-use Rattle.gate_model.specs.Requirement.{mine, unsettled, monthly, value_left, values, required, charges, Within, commits_body, committed}
+use Rattle.gate_model.specs.Requirement.{mine, unsettled, monthly, value_left, values, charges, Within, commits_body, committed}
 use Rattle.gate_model.specs.Effects.{less, lessened, settled, drawn, changed, costed, bought, sold, sale_cost, converted, cleared, awarded, right_for, rights_of}
 use Rattle.gate_model.specs.Grounds.{stands, lawful_on, lawful_award}
-use Rattle.gate_model.specs.Law.{RightPriced, PartPriced}
+use Rattle.gate_model.specs.Law.{RightPriced}
 use Rattle.gate_model.proofs.Firsts.{all_first}
 use Rattle.gate_model.proofs.Months.{Ahead, unsettled_costed, value_ahead}
 use Rattle.gate_model.proofs.Blocks.{bid_award, offer_award, conversion_award, offer_block, offer_top}
 use Rattle.gate_model.proofs.Rights.{lessened_sum}
-use Rattle.gate_model.proofs.Sound.{BidBacked, OfferBacked, PartBacked, ConversionBacked, BodyBacked, Backed, Sound, StandingSound, standing_of, rights_more, rights_less, settled_sound, settled_sum, requirement_above, commits_above}
+use Rattle.gate_model.proofs.Sound.{BidBacked, OfferBacked, PartBacked, ConversionBacked, BodyBacked, Backed, Sound, standing_of, rights_more, rights_less, settled_sound, settled_sum, requirement_above, commits_above}
 use Rattle.hours.specs.declared.period.Period.{Period}
 use Rattle.books.specs.declared.key.Key.{Key}
 use Rattle.gate_model.specs.declared.point.Point.{Point}

@@ -1,15 +1,14 @@
 -- What an award in a block of a curve comes to, against what the curve requires.
-use Rattle.std.proofs.Common.{◌≡◌, ℕ, zero, suc, ◌+◌, ◌-◌, ◌*◌, ◌<◌, ◌≤◌, Bool, true, false, cond, ◌&&◌, ◌||◌, eqb, ltb, leb, ◌⊎◌, List, [], ◌∷◌, length, ℤ, pos, negsuc, ◌+ℤ◌, ◌-ℤ◌, ◌*ℤ◌, neg_ℤ, ◌≤ℤ◌, sym, refl, ap, ◌∙◌, inl, inr, ⊎_elim, arith}
+use Rattle.std.proofs.Common.{◌≡◌, ℕ, ◌*◌, ◌≤◌, Bool, true, ◌&&◌, ltb, leb, List, [], ◌∷◌, length, ℤ, pos, negsuc, ◌+ℤ◌, ◌-ℤ◌, ◌*ℤ◌, neg_ℤ, ◌≤ℤ◌, refl, ap, ⊎_elim, arith}
 use borrow.Author.Differences.{sum_is_lem, neg_is}
 use lib.Signed.{le_z}
-use Rattle.std.specs.Int.{int_max}
 use Rattle.std.proofs.lemmas.Int.{ints, clamps}
 use Rattle.std.proofs.lemmas.Bool.{or_cases, and_parts, leb-true, ltb-true, false≢true}
-use Rattle.gate_model.specs.Money.{max0, floor_z, MoneyLaws}
+use Rattle.gate_model.specs.Money.{max0, floor_z}
 use Rattle.gate_model.proofs.Money.{max0_is, scaled, proved}
 use Rattle.gate_model.specs.Sums.{sum_z}
-use Rattle.gate_model.specs.Measures.{lawful_megawatts, lawful_price}
-use Rattle.gate_model.specs.Curves.{lawful_point, ordered, lawful_curve, lawful_bid, lawful_offer, top, in_block, most, bid_at, bid_requirement, offer_at, offer_requirement, worth, min0, gain, loss, conversion_requirement, greatest_cost, greatest_loss}
+use Rattle.gate_model.specs.Measures.{lawful_megawatts}
+use Rattle.gate_model.specs.Curves.{lawful_point, ordered, lawful_bid, lawful_offer, top, in_block, most, bid_at, bid_requirement, offer_at, offer_requirement, worth, min0, gain, loss, conversion_requirement, greatest_cost, greatest_loss}
 use Rattle.gate_model.specs.declared.point.Point.{Point}
 use Rattle.gate_model.specs.declared.conversion.Part.{Part}
 

@@ -1,6 +1,5 @@
 -- The unsettled cost, with the most that what stands may add to it, is never over the limit of ground 11.
-use Rattle.std.proofs.Common.{◌≡◌, ℕ, zero, suc, ◌+◌, ◌-◌, ◌*◌, ◌^◌, ◌<◌, ◌≤◌, Bool, true, false, cond, not, ◌&&◌, ◌||◌, eqb, ltb, leb, ◌⊎◌, List, [], ◌∷◌, ◌++◌, map, length, ℤ, pos, ◌+ℤ◌, ◌-ℤ◌, ◌*ℤ◌, neg_ℤ, ◌≤ℤ◌, sym, refl, ap, ◌∙◌, subst, inl, inr, ⊎_elim, add-one, arith}
-use lib.Signed.{le_z, lt_z}
+use Rattle.std.proofs.Common.{◌≡◌, ℕ, zero, suc, ◌+◌, ◌-◌, ◌^◌, ◌<◌, true, false, cond, eqb, List, [], ◌∷◌, map, length, ℤ, pos, ◌+ℤ◌, ◌*ℤ◌, neg_ℤ, ◌≤ℤ◌, sym, refl, ap, ◌∙◌, subst, ⊎_elim, add-one, arith}
 use Rattle.std.specs.List.{AllByRecursion}
 use Rattle.std.proofs.lemmas.Int.{ints}
 use Rattle.std.proofs.lemmas.Bool.{cases_Bool, cond_both, cond-false, and_parts, eqb-true, ne_eqb}
@@ -10,7 +9,7 @@ use Rattle.gate_model.proofs.Sums.{sum_z-append}
 use Rattle.gate_model.specs.Measures.{Prices}
 use Rattle.gate_model.specs.State.{Account, Body, bid, offer, conversion, Item, State, right_at, item_at, new}
 use Rattle.gate_model.specs.Requirement.{mine, over, unsettled, monthly}
-use Rattle.gate_model.specs.Effects.{Line, bid_line, offer_line, changed, with_account, secured, charged, costed, drawn, settled, cleared, awarded, sale_cost, stands_too, item_of, stand, submitted, part_of, conversion_item, turned, month_charged}
+use Rattle.gate_model.specs.Effects.{Line, bid_line, offer_line, changed, with_account, secured, charged, costed, drawn, settled, cleared, awarded, sale_cost, stands_too, item_of, stand, submitted, part_of, conversion_item, turned}
 use Rattle.gate_model.specs.Calls.{Call, posting, returning, charge, invoice, payment, opening, submission, conversion_of, closing, award, ending, transfer, month_turn, new_book}
 use Rattle.gate_model.specs.Grounds.{grounds, stands, lawful_award, lawful_on, costly, after_cents, cents}
 use Rattle.gate_model.specs.Run.{effect, step}
@@ -19,15 +18,9 @@ use Rattle.gate_model.proofs.Blocks.{most_above, bid_cost, offer_cost}
 use Rattle.gate_model.proofs.Sound.{BodyBacked, Backed, Sound, settled_sum}
 use Rattle.gate_model.proofs.Award.{item_backed, lawful_some}
 use Rattle.gate_model.proofs.Tables.{Unmet, Passes, decided_keeps, not_passed, standing_passed}
-use Rattle.gate_model.proofs.Standing.{other_account}
 use Rattle.gate_model.proofs.Costs.{Costed, original_above}
 use Rattle.hours.specs.declared.period.Period.{Period}
-use Rattle.books.specs.declared.key.Key.{Key}
-use Rattle.gate_model.specs.declared.point.Point.{Point}
-use Rattle.gate_model.specs.declared.conversion.Part.{Part}
-use Rattle.gate_model.specs.declared.conversion.Request.{Request}
 use Rattle.gate_model.specs.declared.right.Right.{Right}
-use Rattle.gate_model.specs.declared.phase.Shown.{Shown}
 
 -- the most that what the customer has standing may add to the cost
 abbrev pub may_add : ℕ → List Item → ℤ

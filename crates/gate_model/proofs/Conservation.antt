@@ -1,31 +1,26 @@
 -- Every call changes what is held of an unfinished key by what it clears.
-use Rattle.std.proofs.Common.{◌≡◌, ℕ, zero, suc, ◌+◌, ◌-◌, ◌*◌, ◌<◌, ◌≤◌, Bool, true, false, cond, not, ◌&&◌, ◌||◌, eqb, ltb, leb, ◌⊎◌, List, [], ◌∷◌, ◌++◌, map, length, ℤ, pos, ◌+ℤ◌, ◌-ℤ◌, ◌*ℤ◌, neg_ℤ, ◌≤ℤ◌, fold, filter, sym, refl, ap, ◌∙◌, subst, inl, inr, ⊎_elim, arith}
-use lib.Signed.{le_z, lt_z}
+use Rattle.std.proofs.Common.{◌≡◌, ℕ, ◌+◌, ◌-◌, ◌≤◌, Bool, true, false, cond, eqb, ltb, List, [], ◌∷◌, ◌++◌, map, ℤ, pos, ◌+ℤ◌, fold, filter, sym, refl, ap, ◌∙◌, arith}
 use Rattle.std.specs.List.{AllByRecursion}
 use Rattle.std.proofs.lemmas.Int.{ints}
-use Rattle.std.proofs.lemmas.Bool.{cases_Bool, cond_both, cond-true, cond-false, and_parts, eqb-true, both_ways, ltb-true, lt-ltb}
+use Rattle.std.proofs.lemmas.Bool.{cond_both, cond-true, cond-false, and_parts, eqb-true, both_ways, ltb-true, lt-ltb}
 use Rattle.gate_model.specs.Sums.{sum_z}
 use Rattle.gate_model.proofs.Sums.{sum_z-append}
-use Rattle.gate_model.specs.Measures.{Prices, unfinished, same_period}
-use Rattle.gate_model.specs.State.{Account, Body, bid, offer, conversion, Item, State, right_at, item_at}
-use Rattle.gate_model.specs.Effects.{Line, less, lessened, right_for, rights_of, settled, cleared, awarded, stand, submitted, transferred, turned, repriced, rebooked}
+use Rattle.gate_model.specs.Measures.{Prices, unfinished}
+use Rattle.gate_model.specs.State.{Body, bid, offer, conversion, State, right_at, item_at}
+use Rattle.gate_model.specs.Effects.{Line, lessened, right_for, rights_of, settled, cleared, awarded, stand, submitted, transferred, repriced}
 use Rattle.gate_model.specs.Calls.{Call, posting, returning, charge, invoice, payment, opening, submission, conversion_of, closing, award, ending, transfer, month_turn, new_book}
-use Rattle.gate_model.specs.Requirement.{committed}
-use Rattle.gate_model.specs.Grounds.{grounds, approved, stands, lawful_award, lawful_on}
+use Rattle.gate_model.specs.Grounds.{grounds, stands, lawful_award, lawful_on}
 use Rattle.gate_model.specs.Run.{effect, step, next}
 use Rattle.gate_model.specs.Conservation.{of_key, held, buys, converts, sells, clears, along}
 use Rattle.gate_model.proofs.Rights.{lessened_sum}
 use Rattle.gate_model.proofs.Sound.{BodyBacked, Sound}
-use Rattle.gate_model.proofs.Award.{Takes, offer_takes, item_backed, lawful_some}
+use Rattle.gate_model.proofs.Award.{offer_takes, item_backed, lawful_some}
 use Rattle.gate_model.proofs.Tables.{Unmet, decided_keeps, not_passed}
 use Rattle.gate_model.proofs.Steps.{Passed, transfer_passed, committed_above, step_sound}
 use Rattle.hours.specs.declared.period.Period.{Period}
 use Rattle.books.specs.declared.key.Key.{Key}
-use Rattle.gate_model.specs.declared.point.Point.{Point}
 use Rattle.gate_model.specs.declared.conversion.Part.{Part}
-use Rattle.gate_model.specs.declared.conversion.Request.{Request}
 use Rattle.gate_model.specs.declared.right.Right.{Right}
-use Rattle.gate_model.specs.declared.phase.Shown.{Shown}
 use Rattle.books.specs.Keys.{same_key}
 use Rattle.gate_model.specs.declared.outcome.Outcome.{Outcome}
 

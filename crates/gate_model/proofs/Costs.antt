@@ -1,38 +1,33 @@
 -- The unsettled cost of a month from the open one on is at least what the customer's rights of that month cost, so never negative.
-use Rattle.std.proofs.Common.{◌≡◌, ℕ, zero, suc, ◌+◌, ◌-◌, ◌*◌, ◌<◌, ◌≤◌, Bool, true, false, cond, not, ◌&&◌, ◌||◌, eqb, ltb, leb, ◌⊎◌, List, [], ◌∷◌, ◌++◌, map, length, ℤ, pos, negsuc, ◌+ℤ◌, ◌-ℤ◌, ◌*ℤ◌, neg_ℤ, ◌≤ℤ◌, filter, sym, refl, ap, ◌∙◌, subst, inl, inr, ⊎_elim, arith}
+use Rattle.std.proofs.Common.{◌≡◌, ℕ, ◌+◌, ◌-◌, ◌≤◌, Bool, true, false, cond, not, eqb, ltb, List, [], ◌∷◌, map, length, ℤ, pos, negsuc, ◌+ℤ◌, ◌-ℤ◌, ◌*ℤ◌, neg_ℤ, ◌≤ℤ◌, filter, sym, refl, ap, ◌∙◌, subst, arith}
 use lib.IntN.{*ℤ-zero}
-use lib.Signed.{le_z}
 use Rattle.std.specs.List.{AllByRecursion}
 use Rattle.std.proofs.lemmas.Int.{ints}
-use Rattle.std.proofs.lemmas.Bool.{cases_Bool, cond_both, cond-false, and_parts, or_parts, ne_eqb, eqb-false, leb-true}
-use Rattle.std.proofs.ByRecursion.{All-append, all_kept_by, All-map, All-weaker}
+use Rattle.std.proofs.lemmas.Bool.{cond_both, cond-false, and_parts, or_parts, ne_eqb, eqb-false}
+use Rattle.std.proofs.ByRecursion.{All-append, all_kept_by, All-map}
 use Rattle.gate_model.specs.Money.{max0, floor_z, Parts, one, two, three, four, six, twelve}
-use Rattle.gate_model.proofs.Money.{proved, max0_is}
+use Rattle.gate_model.proofs.Money.{proved}
 use Rattle.gate_model.specs.Sums.{sum_z}
 use Rattle.gate_model.proofs.Sums.{sum_z-append}
 use Rattle.gate_model.specs.Measures.{Prices, unfinished}
 use Rattle.gate_model.specs.State.{Account, Body, bid, offer, conversion, Item, State, right_at, right_numbered, no_right, item_at, new}
-use Rattle.gate_model.specs.Requirement.{mine, monthly, committed}
-use Rattle.gate_model.specs.Effects.{Line, bears, spread, costed, changed, with_account, secured, charged, drawn, part_of, conversion_item, less, rest, lessened, right_for, rights_of, settled, bought, sold, sale_cost, converted, cleared, awarded, stands_too, item_of, stand, submitted, converting, transferred, turned, repriced, rebooked, ended}
+use Rattle.gate_model.specs.Requirement.{mine, monthly}
+use Rattle.gate_model.specs.Effects.{Line, bears, costed, with_account, secured, charged, drawn, part_of, conversion_item, less, rest, lessened, right_for, rights_of, settled, bought, sold, sale_cost, converted, cleared, awarded, stands_too, item_of, stand, submitted, transferred, turned, repriced, rebooked}
 use Rattle.gate_model.specs.Calls.{Call, posting, returning, charge, invoice, payment, opening, submission, conversion_of, closing, award, ending, transfer, month_turn, new_book}
 use Rattle.gate_model.specs.Grounds.{grounds, stands, lawful_award, lawful_on, is_idle, after_cents, cents}
 use Rattle.gate_model.specs.Run.{effect, step}
 use Rattle.gate_model.proofs.Firsts.{all_first, all_replaced}
-use Rattle.gate_model.proofs.Months.{lawful_length, Ahead, parts_of}
-use Rattle.gate_model.proofs.Blocks.{times_plus, times_minus}
-use Rattle.gate_model.proofs.Rights.{lessened_sum, right_known}
+use Rattle.gate_model.proofs.Months.{lawful_length, parts_of}
+use Rattle.gate_model.proofs.Blocks.{times_minus}
+use Rattle.gate_model.proofs.Rights.{lessened_sum}
 use Rattle.gate_model.proofs.Sound.{PartBacked, BodyBacked, Sound}
-use Rattle.gate_model.proofs.Award.{Takes, offer_takes, item_backed, lawful_some}
+use Rattle.gate_model.proofs.Award.{offer_takes, item_backed, lawful_some}
 use Rattle.gate_model.proofs.Tables.{Unmet, decided_keeps, not_passed, call_passed}
-use Rattle.gate_model.proofs.Steps.{Passed, transfer_passed, committed_above}
+use Rattle.gate_model.proofs.Steps.{transfer_passed, committed_above}
 use Rattle.hours.specs.declared.period.Period.{Period}
 use Rattle.books.specs.declared.key.Key.{Key}
-use Rattle.gate_model.specs.declared.point.Point.{Point}
 use Rattle.gate_model.specs.declared.conversion.Part.{Part}
-use Rattle.gate_model.specs.declared.conversion.Request.{Request}
 use Rattle.gate_model.specs.declared.right.Right.{Right}
-use Rattle.gate_model.specs.declared.phase.Shown.{Shown}
-use Rattle.hours.specs.Periods.{lawful_period}
 
 -- equal parts add up, are at least 0 of what is at least 0, and are 0 of 0
 add_parts : (n : ℕ) (a b : ℤ) → Parts n → floor_z (pos 12 *ℤ (a +ℤ b)) n ≡ floor_z (pos 12 *ℤ a) n +ℤ floor_z (pos 12 *ℤ b) n

@@ -1,12 +1,11 @@
 -- The worked figures, of the definitions.
-use Rattle.std.proofs.Common.{◌≡◌, ℕ, List, [], ◌∷◌, ℤ, pos, negsuc, None, Ok, Err, Result, refl}
+use Rattle.std.proofs.Common.{◌≡◌, ℕ, List, [], ◌∷◌, ℤ, pos, negsuc, None, Ok, refl}
 use Rattle.gate_model.specs.Measures.{Prices}
 use Rattle.gate_model.specs.Curves.{bid_requirement, offer_requirement, conversion_requirement}
 use Rattle.gate_model.specs.Requirement.{total}
-use Rattle.gate_model.specs.Effects.{Line, bid_line}
+use Rattle.gate_model.specs.Effects.{bid_line}
 use Rattle.gate_model.specs.Calls.{Call, posting, opening, submission, closing, award}
 use Rattle.gate_model.specs.Run.{run, reached}
-use Rattle.hours.specs.declared.period.Period.{Period}
 use Rattle.books.specs.declared.key.Key.{Key}
 use Rattle.gate_model.specs.declared.point.Point.{Point}
 use Rattle.gate_model.specs.declared.conversion.Part.{Part}

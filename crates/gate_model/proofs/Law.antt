@@ -1,16 +1,16 @@
 -- The law over all runs.
-use Rattle.std.proofs.Common.{◌≡◌, ℕ, Bool, true, false, List, [], ◌∷◌, ◌++◌, ℤ, pos, ◌+ℤ◌, ◌-ℤ◌, fold, sym, refl, ap, ◌∙◌, subst, arith}
+use Rattle.std.proofs.Common.{◌≡◌, ℕ, true, List, [], ◌∷◌, fold, sym, subst, arith}
 use Rattle.std.specs.List.{AllByRecursion}
 use Rattle.std.proofs.lemmas.Int.{ints}
 use Rattle.std.proofs.lemmas.List.Sums.{fold_push}
 use Rattle.std.proofs.ByRecursion.{All-weaker}
 use Rattle.gate_model.specs.Measures.{Prices, lawful_megawatts}
-use Rattle.gate_model.specs.State.{Body, bid, offer, conversion, Item, State, new, item_at}
+use Rattle.gate_model.specs.State.{Body, bid, offer, conversion, Item, State, new}
 use Rattle.gate_model.specs.Requirement.{Within}
 use Rattle.gate_model.specs.Calls.{Call}
-use Rattle.gate_model.specs.Run.{step, next, run, reached}
-use Rattle.gate_model.specs.Clearing.{LawfulAward, Clears, cleared_out, one_award}
-use Rattle.gate_model.specs.Law.{BodyPriced, PartPriced, PricesAgree, requirement_of, SumsAgree, Sane, Roomy, Numbered, WithinLimits, Law, may_raise}
+use Rattle.gate_model.specs.Run.{next, reached}
+use Rattle.gate_model.specs.Clearing.{Clears, cleared_out, one_award}
+use Rattle.gate_model.specs.Law.{BodyPriced, PartPriced, PricesAgree, requirement_of, SumsAgree, Sane, Roomy, Numbered, WithinLimits, Law}
 use Rattle.gate_model.proofs.Sound.{BodyBacked, Backed, PartBacked, Sound}
 use Rattle.gate_model.proofs.Award.{award_within, award_sound}
 use Rattle.gate_model.proofs.Steps.{step_sound, step_within, new_sound}
@@ -19,8 +19,6 @@ use Rattle.gate_model.proofs.Costs.{Costed, original_above, step_costed, new_cos
 use Rattle.gate_model.proofs.Caps.{Capped, step_capped, new_capped}
 use Rattle.gate_model.proofs.Limits.{step_sane, new_sane, step_roomy, new_roomy, step_numbered, new_numbered, step_sized}
 use Rattle.gate_model.proofs.Conservation.{calls_move}
-use Rattle.gate_model.specs.declared.point.Point.{Point}
-use Rattle.gate_model.specs.declared.conversion.Part.{Part}
 use Rattle.gate_model.specs.declared.right.Right.{Right}
 
 -- what every step keeps holds after any steps

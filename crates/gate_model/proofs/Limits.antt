@@ -1,17 +1,17 @@
 -- Room in the tables, limits of accounts, and numbers that rise.
-use Rattle.std.proofs.Common.{◌≡◌, ℕ, zero, suc, ◌+◌, ◌-◌, ◌*◌, ◌^◌, ◌<◌, ◌≤◌, Bool, true, false, cond, not, ◌&&◌, ◌||◌, eqb, ltb, leb, ◌⊎◌, List, [], ◌∷◌, ◌++◌, map, length, take, ℤ, pos, ◌+ℤ◌, ◌-ℤ◌, ◌*ℤ◌, neg_ℤ, ◌≤ℤ◌, None, sum_by, count_by, filter, sym, refl, ap, ◌∙◌, subst, inl, inr, ⊎_elim, arith, length-append}
+use Rattle.std.proofs.Common.{◌≡◌, ℕ, suc, ◌+◌, ◌-◌, ◌^◌, ◌<◌, ◌≤◌, Bool, true, false, cond, not, ◌||◌, eqb, ltb, leb, List, [], ◌∷◌, ◌++◌, map, length, take, ℤ, pos, ◌+ℤ◌, neg_ℤ, None, sum_by, filter, sym, refl, ap, ◌∙◌, subst, arith, length-append}
 use lib.ListN.{length-map}
-use lib.Signed.{le_z, lt_z}
+use lib.Signed.{lt_z}
 use borrow.Author.Differences.{abs_is}
 use Rattle.std.specs.List.{AllByRecursion}
 use Rattle.std.proofs.lemmas.Int.{ints}
-use Rattle.std.proofs.lemmas.Bool.{cases_Bool, cond_both, and_parts, or_parts, eqb-true, ltb-false, le-ltb, or_from, and_from, ltb-true, leb-true, le-leb, eqb-false, not-false, false≢true}
-use Rattle.std.proofs.lemmas.List.Sums.{sum_by-cons, sum_by-append, sum_by_push, length-filter, count_by-le-length}
+use Rattle.std.proofs.lemmas.Bool.{cond_both, and_parts, or_parts, eqb-true, ltb-false, and_from, ltb-true, leb-true, le-leb, eqb-false, not-false, false≢true}
+use Rattle.std.proofs.lemmas.List.Sums.{sum_by-cons, length-filter, count_by-le-length}
 use Rattle.std.proofs.lemmas.List.{take_all}
 use Rattle.std.proofs.ByRecursion.{All-append, All-weaker, all_kept_by, All-map}
 use Rattle.gate_model.specs.Measures.{Prices, lawful_megawatts, unfinished}
 use Rattle.gate_model.specs.State.{Account, Body, bid, offer, conversion, Item, State, the_first, any, replaced, right_at, right_numbered, item_at, item_numbered, no_item, new}
-use Rattle.gate_model.specs.Effects.{Line, changed, with_account, secured, charged, costed, drawn, less, rest, lessened, rights_of, right_for, settled, cleared, awarded, stands_too, item_of, stand, submitted, part_of, conversion_item, converting, transferred, turned, month_charged, repriced, unstood}
+use Rattle.gate_model.specs.Effects.{Line, changed, with_account, secured, charged, costed, drawn, less, rest, lessened, rights_of, right_for, settled, cleared, stands_too, item_of, stand, submitted, part_of, conversion_item, converting, transferred, month_charged, repriced, unstood}
 use Rattle.gate_model.specs.Calls.{Call, posting, returning, charge, invoice, payment, opening, submission, conversion_of, closing, award, ending, transfer, month_turn, new_book}
 use Rattle.gate_model.specs.Grounds.{lawful_on, at_line, grounds, stands, crowded, lines_of, new_of, standing_lines, standing_new, lawful_count, customers, outside, after_cents, cents}
 use Rattle.gate_model.specs.Run.{effect, step}
@@ -22,12 +22,9 @@ use Rattle.gate_model.proofs.Sound.{PartBacked, BodyBacked, Sound}
 use Rattle.gate_model.proofs.Award.{item_backed, lawful_some}
 use Rattle.gate_model.proofs.Tables.{Unmet, Passes, decided_keeps, call_passed, not_passed, lines_passed, standing_passed, met_is_not_NotMet}
 use Rattle.hours.specs.declared.period.Period.{Period}
-use Rattle.books.specs.declared.key.Key.{Key}
-use Rattle.gate_model.specs.declared.point.Point.{Point}
 use Rattle.gate_model.specs.declared.conversion.Part.{Part}
 use Rattle.gate_model.specs.declared.conversion.Request.{Request}
 use Rattle.gate_model.specs.declared.right.Right.{Right}
-use Rattle.gate_model.specs.declared.phase.Shown.{Shown}
 use Rattle.hours.specs.Bounds.{within}
 use Rattle.gate_model.specs.declared.refusal.Met.TheVariants.{NotMet, MetAt}
 

@@ -1,9 +1,9 @@
-use Rattle.std.proofs.Common.{◌≡◌, ℕ, suc, ◌+◌, ◌-◌, ◌*◌, ◌/◌, ◌%◌, ◌<◌, ◌≤◌, List, [], ◌∷◌, ℤ, pos, negsuc, ◌+ℤ◌, ◌-ℤ◌, ◌*ℤ◌, neg_ℤ, ◌≤ℤ◌, sym, refl, ap, ◌∙◌, mod-lt, mul-le-mul, div-add-mod', arith}
+use Rattle.std.proofs.Common.{◌≡◌, ℕ, suc, ◌+◌, ◌-◌, ◌*◌, ◌<◌, ◌≤◌, List, [], ◌∷◌, ℤ, pos, negsuc, ◌+ℤ◌, ◌-ℤ◌, ◌*ℤ◌, ◌≤ℤ◌, ap, mul-le-mul, arith}
 use Rattle.std.specs.Int.{int_max}
 use borrow.Author.Differences.{up, down, sum_is_lem}
 use Rattle.std.proofs.lemmas.Int.{ints, clamps}
 use Rattle.std.specs.List.{AllByRecursion}
-use Rattle.gate_model.specs.Money.{max0, floor_z, Parts, one, two, three, four, six, twelve, BidLaw, OfferLaw, ConversionLaw, PartsLaw, FloorLaw, greatest, MoneyLaws}
+use Rattle.gate_model.specs.Money.{max0, floor_z, one, two, three, four, six, twelve, BidLaw, OfferLaw, ConversionLaw, PartsLaw, FloorLaw, greatest, MoneyLaws}
 
 -- for omega: max0 as up and down
 pub max0_is : (x : ℤ) → (up (max0 x) ≡ up x - down x) × (down (max0 x) ≡ 0)

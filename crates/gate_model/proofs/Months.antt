@@ -1,12 +1,12 @@
 -- Sums over months, and the equal parts of a period.
-use Rattle.std.proofs.Common.{◌≡◌, ℕ, zero, suc, ◌+◌, ◌-◌, ◌*◌, ◌<◌, ◌≤◌, min, max, Bool, true, false, cond, ◌&&◌, ◌||◌, eqb, ltb, leb, ◌⊎◌, ℤ, pos, ◌+ℤ◌, ◌-ℤ◌, ◌*ℤ◌, sym, refl, ap, ◌∙◌, subst, inl, inr, ⊎_elim, arith}
+use Rattle.std.proofs.Common.{◌≡◌, ℕ, zero, suc, ◌+◌, ◌-◌, ◌≤◌, min, max, Bool, true, false, cond, ◌&&◌, ◌||◌, eqb, ltb, leb, ℤ, pos, ◌+ℤ◌, ◌*ℤ◌, sym, ap, ◌∙◌, subst, ⊎_elim, arith}
 use Rattle.std.proofs.lemmas.Int.{ints}
 use Rattle.std.proofs.lemmas.Bool.{or_cases, and_parts, eqb-true, leb-true, le-leb, cond-true}
 use Rattle.std.proofs.lemmas.Bool.Decides.{nat_tests}
-use Rattle.gate_model.specs.Money.{Parts, one, two, three, four, six, twelve, MoneyLaws, floor_z}
+use Rattle.gate_model.specs.Money.{Parts, one, two, three, four, six, twelve}
 use Rattle.gate_model.proofs.Money.{proved}
 use Rattle.gate_model.specs.State.{Account}
-use Rattle.gate_model.specs.Requirement.{over, unsettled, monthly, left, value_left}
+use Rattle.gate_model.specs.Requirement.{over, unsettled, monthly, value_left}
 use Rattle.gate_model.specs.Effects.{bears, spread, costed}
 use Rattle.hours.specs.declared.period.Period.{Period}
 use Rattle.gate_model.specs.declared.right.Right.{Right}

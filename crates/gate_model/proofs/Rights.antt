@@ -1,10 +1,9 @@
 -- The right with a number, after a right lost megawatts and after new rights.
-use Rattle.std.proofs.Common.{◌≡◌, ℕ, zero, suc, ◌+◌, ◌-◌, ◌*◌, ◌<◌, ◌≤◌, Bool, true, false, cond, ◌&&◌, ◌||◌, eqb, ltb, leb, ◌⊎◌, List, [], ◌∷◌, ◌++◌, ℤ, pos, ◌+ℤ◌, ◌-ℤ◌, ◌*ℤ◌, ◌≤ℤ◌, sym, refl, ap, ◌∙◌, subst, inl, inr, ⊎_elim, arith}
+use Rattle.std.proofs.Common.{◌≡◌, ℕ, ◌-◌, ◌<◌, ◌≤◌, true, false, cond, ◌||◌, ltb, List, [], ◌∷◌, ◌++◌, ℤ, pos, ◌+ℤ◌, sym, refl, ap, ◌∙◌, ⊎_elim, arith}
 use Rattle.std.proofs.lemmas.Int.{ints}
-use Rattle.std.proofs.lemmas.Bool.{cases_Bool, cond_both, ltb-true, ltb-false, lt-ltb, ne_eqb, eqb-true, eqb-false}
-use Rattle.std.specs.List.{AllByRecursion}
+use Rattle.std.proofs.lemmas.Bool.{cases_Bool, cond_both, ltb-false, lt-ltb, ne_eqb, eqb-true}
 use Rattle.gate_model.specs.Sums.{sum_z}
-use Rattle.gate_model.specs.State.{right_at, right_numbered, any, replaced}
+use Rattle.gate_model.specs.State.{right_at, right_numbered, any}
 use Rattle.gate_model.specs.Effects.{less, rest, lessened}
 use Rattle.gate_model.proofs.Firsts.{replaced_sum}
 use Rattle.gate_model.specs.declared.right.Right.{Right}

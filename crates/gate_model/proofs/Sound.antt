@@ -1,23 +1,21 @@
 -- The invariant of all states that a gate reaches, and that it survives new rights, lost megawatts and items that leave.
-use Rattle.std.proofs.Common.{◌≡◌, ℕ, zero, suc, ◌+◌, ◌-◌, ◌*◌, ◌<◌, ◌≤◌, Bool, true, false, cond, ◌&&◌, ◌||◌, eqb, ltb, leb, ◌⊎◌, List, [], ◌∷◌, ◌++◌, ℤ, pos, ◌+ℤ◌, ◌-ℤ◌, ◌*ℤ◌, neg_ℤ, ◌≤ℤ◌, Ok, Err, Result, sym, refl, ap, ◌∙◌, subst, inl, inr, ⊎_elim, arith}
+use Rattle.std.proofs.Common.{◌≡◌, ℕ, ◌<◌, true, false, cond, eqb, ltb, List, [], ◌∷◌, ◌++◌, ℤ, pos, ◌+ℤ◌, neg_ℤ, ◌≤ℤ◌, Ok, sym, refl, ap, subst, ⊎_elim, arith}
 use Rattle.std.specs.List.{AllByRecursion}
 use Rattle.std.proofs.lemmas.Int.{ints}
-use Rattle.std.proofs.lemmas.Bool.{cases_Bool, cases_eq, cases_lt, cond_both, eqb-true, eq-eqb, cond-true}
+use Rattle.std.proofs.lemmas.Bool.{cases_eq, cases_lt, cond_both, eq-eqb, cond-true}
 use Rattle.std.proofs.ByRecursion.{All-append}
 use Rattle.gate_model.specs.Sums.{sum_z}
-use Rattle.gate_model.proofs.Sums.{sum_z-append}
 use Rattle.gate_model.specs.Measures.{Prices, lawful_megawatts}
 use Rattle.gate_model.specs.Curves.{bid_requirement, offer_requirement, conversion_requirement, greatest_cost, greatest_loss, lawful_bid, lawful_offer, top}
-use Rattle.gate_model.specs.State.{Account, Body, bid, offer, conversion, Item, State, right_at, right_numbered, item_at, item_numbered, no_item, replaced, any}
+use Rattle.gate_model.specs.State.{Account, Body, bid, offer, conversion, Item, State, right_at, right_numbered, item_at, item_numbered, no_item, replaced}
 use Rattle.gate_model.specs.Requirement.{mine, required, commits_body, committed}
-use Rattle.gate_model.specs.Effects.{less, rest, lessened, settled, drawn, changed}
+use Rattle.gate_model.specs.Effects.{less, rest, lessened, settled, drawn}
 use Rattle.gate_model.specs.Grounds.{stands}
-use Rattle.gate_model.specs.Law.{RightPriced, PartPriced, BodyPriced}
-use Rattle.gate_model.proofs.Firsts.{replaced_sum, all_first, all_replaced, sum_above, all_both}
+use Rattle.gate_model.specs.Law.{RightPriced, PartPriced}
+use Rattle.gate_model.proofs.Firsts.{replaced_sum, all_replaced, sum_above, all_both}
 use Rattle.gate_model.proofs.Months.{Ahead}
 use Rattle.gate_model.proofs.Blocks.{most_above, conversion_above, offer_top}
 use Rattle.gate_model.proofs.Rights.{right_append, lessened_same, lessened_other}
-use Rattle.hours.specs.declared.period.Period.{Period}
 use Rattle.books.specs.declared.key.Key.{Key}
 use Rattle.gate_model.specs.declared.point.Point.{Point}
 use Rattle.gate_model.specs.declared.conversion.Part.{Part}

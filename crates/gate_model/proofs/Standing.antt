@@ -1,35 +1,27 @@
 -- Submissions and conversions: what comes to stand is backed and covered, and its owner stays within.
-use Rattle.std.proofs.Common.{◌≡◌, ℕ, zero, suc, ◌+◌, ◌-◌, ◌*◌, ◌<◌, ◌≤◌, Bool, true, false, cond, not, ◌&&◌, ◌||◌, eqb, ltb, leb, ◌⊎◌, List, [], ◌∷◌, ◌++◌, map, length, ℤ, pos, ◌+ℤ◌, ◌-ℤ◌, ◌*ℤ◌, neg_ℤ, ◌≤ℤ◌, Ok, Err, Result, sym, refl, ap, ◌∙◌, subst, inl, inr, ⊎_elim, arith}
-use lib.Signed.{le_z, lt_z}
+use Rattle.std.proofs.Common.{◌≡◌, ℕ, ◌+◌, true, false, cond, not, eqb, List, [], ◌∷◌, ◌++◌, map, length, ℤ, pos, ◌+ℤ◌, ◌≤ℤ◌, Ok, sym, refl, ap, subst, ⊎_elim, arith}
 use Rattle.std.specs.List.{AllByRecursion}
 use Rattle.std.proofs.lemmas.Int.{ints}
-use Rattle.std.proofs.lemmas.Bool.{cases_Bool, cond_both, and_parts, eqb-true, eqb-false, eq-eqb, and_from, not-false, false≢true}
+use Rattle.std.proofs.lemmas.Bool.{cases_Bool, cond_both, and_parts, eqb-true, eq-eqb, and_from, not-false, false≢true}
 use Rattle.std.proofs.ByRecursion.{All-push}
-use Rattle.gate_model.specs.Sums.{sum_z}
 use Rattle.gate_model.proofs.Sums.{sum_z-append}
-use Rattle.gate_model.specs.Measures.{Prices, same_period}
+use Rattle.gate_model.specs.Measures.{same_period}
 use Rattle.gate_model.specs.Curves.{top}
-use Rattle.gate_model.specs.State.{Account, Body, bid, offer, conversion, Item, State, right_at, right_numbered, any}
+use Rattle.gate_model.specs.State.{Account, Item, State, right_at, right_numbered, any}
 use Rattle.gate_model.specs.Requirement.{mine, required, values, above, Within, commits_body, committed}
 use Rattle.gate_model.specs.Effects.{Line, bid_line, offer_line, price_or_zero, line_key, drawn, changed, stands_too, item_of, stand, submitted, part_of, conversion_item, converting}
-use Rattle.gate_model.specs.Grounds.{shows_open, lawful_line, lawful_request, has_right, owns, uncommitted, free, asked}
-use Rattle.gate_model.specs.Law.{PartPriced}
+use Rattle.gate_model.specs.Grounds.{shows_open, lawful_line, lawful_request, owns, free, asked}
 use Rattle.gate_model.proofs.Months.{Ahead}
 use Rattle.gate_model.proofs.Award.{Holds}
 use Rattle.gate_model.proofs.Tables.{Passes}
-use Rattle.gate_model.proofs.Sound.{BidBacked, OfferBacked, PartBacked, ConversionBacked, Backed, Sound, WindowSound}
+use Rattle.gate_model.proofs.Sound.{PartBacked, Backed, Sound, WindowSound}
 use Rattle.hours.specs.declared.period.Period.{Period}
-use Rattle.hours.specs.declared.fault.Fault.{Fault}
-use Rattle.books.specs.declared.key.Key.{Key}
-use Rattle.gate_model.specs.declared.point.Point.{Point}
-use Rattle.gate_model.specs.declared.conversion.Part.{Part}
 use Rattle.gate_model.specs.declared.conversion.Request.{Request}
-use Rattle.gate_model.specs.declared.right.Right.{Right}
 use Rattle.gate_model.specs.declared.phase.Phase.{Phase}
 use Rattle.gate_model.specs.declared.phase.Shown.{Shown}
 use Rattle.gate_model.specs.declared.phase.Phase.TheVariants.{Idle, Open, Closed}
 use Rattle.books.specs.Keys.{lawful_path}
-use Rattle.hours.specs.Periods.{lawful_class, lawful_period}
+use Rattle.hours.specs.Periods.{lawful_class}
 
 -- a test against the security, as a fact
 pub not_above : (s : State) (c : ℕ) → above s c ≡ false → Within s c

@@ -1,38 +1,29 @@
 -- Every call keeps the state sound, and takes nobody from within to above unless it may.
-use Rattle.std.proofs.Common.{◌≡◌, ℕ, zero, suc, ◌+◌, ◌-◌, ◌*◌, ◌<◌, ◌≤◌, Bool, true, false, cond, not, ◌&&◌, ◌||◌, eqb, ltb, leb, ◌⊎◌, List, [], ◌∷◌, ◌++◌, map, length, ℤ, pos, ◌+ℤ◌, ◌-ℤ◌, ◌*ℤ◌, neg_ℤ, nat_abs, ◌≤ℤ◌, Ok, Err, fold, filter, Result, sym, refl, ap, ◌∙◌, subst, inl, inr, ⊎_elim, arith}
-use lib.Signed.{le_z, lt_z}
+use Rattle.std.proofs.Common.{◌≡◌, ℕ, ◌+◌, ◌*◌, ◌≤◌, true, false, cond, not, eqb, leb, List, [], ◌∷◌, map, length, ℤ, pos, ◌+ℤ◌, ◌-ℤ◌, neg_ℤ, ◌≤ℤ◌, Ok, sym, refl, ap, ◌∙◌, subst, ⊎_elim, arith}
+use lib.Signed.{lt_z}
 use borrow.Author.Differences.{abs_is}
 use Rattle.std.specs.List.{AllByRecursion}
 use Rattle.std.proofs.lemmas.Int.{ints}
-use Rattle.std.proofs.lemmas.Bool.{cases_Bool, cond_both, and_parts, or_parts, eqb-true, leb-true, true≢false, false≢true, not-false, not-true}
-use Rattle.std.proofs.ByRecursion.{all_kept_by, All-map, All-weaker}
+use Rattle.std.proofs.lemmas.Bool.{cases_Bool, cond_both, and_parts, or_parts, eqb-true, leb-true, true≢false, false≢true, not-false}
+use Rattle.std.proofs.ByRecursion.{all_kept_by, All-map}
 use Rattle.gate_model.specs.Money.{max0}
-use Rattle.gate_model.proofs.Money.{max0_is}
-use Rattle.gate_model.specs.Sums.{sum_z}
 use Rattle.gate_model.proofs.Sums.{sum_z-append}
-use Rattle.gate_model.specs.Measures.{Prices, lawful_megawatts, unfinished, customer}
-use Rattle.gate_model.specs.State.{Account, Body, bid, offer, conversion, Item, State, right_at, right_numbered, no_right, item_at, any, new}
+use Rattle.gate_model.specs.Measures.{Prices, unfinished}
+use Rattle.gate_model.specs.State.{Account, Item, State, right_at, right_numbered, no_right, any, new}
 use Rattle.gate_model.specs.Requirement.{mine, unsettled, charges, values, value_left, required, above, Within, commits_body, committed}
-use Rattle.gate_model.specs.Effects.{Line, changed, with_account, with_phase, secured, charged, price_or_zero, less, lessened, right_for, stand, submitted, part_of, conversion_item, converting, awarded, transferred, month_charged, turned, repriced, rebooked, unstood, ended}
+use Rattle.gate_model.specs.Effects.{with_account, secured, charged, price_or_zero, less, lessened, right_for, stand, part_of, conversion_item, transferred, turned, repriced, rebooked, ended}
 use Rattle.gate_model.specs.Calls.{Call, posting, returning, charge, invoice, payment, opening, submission, conversion_of, closing, award, ending, transfer, month_turn, new_book}
-use Rattle.gate_model.specs.Grounds.{grounds, approved, shows_open, shows_closed, is_idle, has_right, uncommitted, stands, lawful_award, after_cents, outside, cents}
+use Rattle.gate_model.specs.Grounds.{grounds, is_idle, stands, after_cents, cents}
 use Rattle.gate_model.specs.Run.{effect, step}
 use Rattle.gate_model.specs.Law.{RightPriced, may_raise}
 use Rattle.gate_model.proofs.Firsts.{all_first, sum_above}
-use Rattle.gate_model.proofs.Months.{Ahead}
 use Rattle.gate_model.proofs.Rights.{lessened_sum}
-use Rattle.gate_model.proofs.Sound.{BodyBacked, Backed, Sound, WindowSound, StandingSound, standing_of, rights_more, rights_less, commits_above, requirement_above}
+use Rattle.gate_model.proofs.Sound.{Backed, Sound, WindowSound, standing_of, rights_more, rights_less, commits_above, requirement_above}
 use Rattle.gate_model.proofs.Award.{Holds, lowered, award_within, award_sound}
 use Rattle.gate_model.proofs.Tables.{Unmet, decided_keeps, call_passed, not_passed, lines_passed, standing_passed, prices_passed}
-use Rattle.gate_model.proofs.Standing.{not_above, tested_keeps, open_ahead, other_account, stands_too_within, submitted_sound, submitted_within, converting_sound}
-use Rattle.hours.specs.declared.period.Period.{Period}
-use Rattle.books.specs.declared.key.Key.{Key}
-use Rattle.gate_model.specs.declared.point.Point.{Point}
-use Rattle.gate_model.specs.declared.conversion.Part.{Part}
-use Rattle.gate_model.specs.declared.conversion.Request.{Request}
+use Rattle.gate_model.proofs.Standing.{tested_keeps, open_ahead, other_account, stands_too_within, submitted_sound, submitted_within, converting_sound}
 use Rattle.gate_model.specs.declared.right.Right.{Right}
 use Rattle.gate_model.specs.declared.phase.Phase.{Phase}
-use Rattle.gate_model.specs.declared.phase.Shown.{Shown}
 use Rattle.gate_model.specs.declared.phase.Phase.TheVariants.{Idle, Open, Closed}
 use Rattle.hours.specs.Periods.{lawful_period}
 

@@ -1,5 +1,5 @@
 -- What it means that a table of grounds is passed.
-use Rattle.std.proofs.Common.{◌≡◌, ℕ, zero, suc, ◌+◌, Bool, true, false, cond, not, ◌&&◌, ◌||◌, List, [], ◌∷◌, ◌++◌, ℤ, pos, Some, None, Ok, Err, Option, Result, sym, refl, ap, ◌∙◌, subst, arith}
+use Rattle.std.proofs.Common.{◌≡◌, ℕ, suc, Bool, true, false, cond, not, ◌&&◌, List, [], ◌∷◌, ℤ, Some, None, Ok, Err, Option, Result, refl, arith}
 use Rattle.std.specs.List.{AllByRecursion}
 use Rattle.gate_model.specs.State.{State}
 use Rattle.gate_model.specs.Effects.{Line, price_or_zero}

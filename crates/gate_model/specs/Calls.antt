@@ -3,7 +3,6 @@ use Rattle.std.specs.Prelude.{ℕ, List, ℤ}
 use Rattle.gate_model.specs.Measures.{Prices}
 use Rattle.gate_model.specs.Effects.{Line}
 use Rattle.hours.specs.declared.period.Period.{Period}
-use Rattle.hours.specs.declared.fault.Fault.{Fault}
 use Rattle.gate_model.specs.declared.conversion.Request.{Request}
 use Rattle.gate_model.specs.declared.phase.Shown.{Shown}
 

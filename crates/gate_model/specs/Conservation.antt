@@ -1,19 +1,12 @@
 -- The megawatts of a key that are held, and those that the approved awards of a list of calls bought, converted and sold.
-use Rattle.std.specs.Prelude.{ℕ, Bool, true, false, cond, List, [], ◌∷◌, ℤ, pos, ◌+ℤ◌, ◌==◌}
+use Rattle.std.specs.Prelude.{ℕ, cond, List, [], ◌∷◌, ℤ, pos, ◌+ℤ◌, ◌==◌}
 use Rattle.gate_model.specs.Sums.{sum_z}
 use Rattle.gate_model.specs.Measures.{Prices}
 use Rattle.gate_model.specs.State.{Body, bid, offer, conversion, State, new, right_at, item_at}
-use Rattle.gate_model.specs.Effects.{Line}
 use Rattle.gate_model.specs.Calls.{Call, posting, returning, charge, invoice, payment, opening, submission, conversion_of, closing, award, ending, transfer, month_turn, new_book}
 use Rattle.gate_model.specs.Grounds.{grounds, approved}
 use Rattle.gate_model.specs.Run.{step}
-use Rattle.hours.specs.declared.period.Period.{Period}
 use Rattle.books.specs.declared.key.Key.{Key}
-use Rattle.gate_model.specs.declared.point.Point.{Point}
-use Rattle.gate_model.specs.declared.conversion.Part.{Part}
-use Rattle.gate_model.specs.declared.conversion.Request.{Request}
-use Rattle.gate_model.specs.declared.right.Right.{Right}
-use Rattle.gate_model.specs.declared.phase.Shown.{Shown}
 use Rattle.books.specs.Keys.{same_key}
 
 -- q where the key is k

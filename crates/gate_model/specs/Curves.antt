@@ -1,10 +1,9 @@
 -- The curves of bids and offers: their order, their blocks, and what they may come to cost.
-use Rattle.std.specs.Prelude.{ℕ, ◌+◌, ◌*◌, Bool, true, false, ◌&&◌, ◌||◌, List, [], ◌∷◌, length, ℤ, pos, negsuc, ◌+ℤ◌, ◌-ℤ◌, ◌*ℤ◌, neg_ℤ, int_le, nat_le, nat_lt}
+use Rattle.std.specs.Prelude.{ℕ, ◌*◌, Bool, false, ◌&&◌, ◌||◌, List, [], ◌∷◌, length, ℤ, pos, negsuc, ◌+ℤ◌, ◌-ℤ◌, ◌*ℤ◌, neg_ℤ, int_le, nat_le, nat_lt}
 use Rattle.std.specs.Int.{int_max}
 use Rattle.gate_model.specs.Money.{max0, floor_z}
 use Rattle.gate_model.specs.Sums.{sum_z}
 use Rattle.gate_model.specs.Measures.{lawful_megawatts, lawful_price}
-use Rattle.books.specs.declared.key.Key.{Key}
 use Rattle.gate_model.specs.declared.point.Point.{Point}
 use Rattle.gate_model.specs.declared.conversion.Part.{Part}
 

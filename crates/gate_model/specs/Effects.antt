@@ -1,5 +1,5 @@
 -- What each call does to the gate, once approved.
-use Rattle.std.specs.Prelude.{ℕ, zero, suc, ◌+◌, ◌-◌, ◌*◌, Bool, true, false, cond, not, ◌&&◌, List, [], ◌∷◌, ◌++◌, map, length, ℤ, pos, ◌+ℤ◌, ◌-ℤ◌, ◌*ℤ◌, neg_ℤ, Ok, Err, fold, filter, Result, ◌==◌, nat_le, nat_lt}
+use Rattle.std.specs.Prelude.{ℕ, ◌+◌, ◌-◌, Bool, cond, ◌&&◌, List, [], ◌∷◌, ◌++◌, map, length, ℤ, pos, ◌+ℤ◌, ◌-ℤ◌, ◌*ℤ◌, neg_ℤ, Ok, Err, fold, filter, Result, ◌==◌, nat_le, nat_lt}
 use Rattle.gate_model.specs.Money.{max0}
 use Rattle.gate_model.specs.Measures.{Prices, unfinished}
 use Rattle.gate_model.specs.Curves.{bid_requirement, offer_requirement, conversion_requirement, greatest_cost, greatest_loss}
@@ -12,7 +12,7 @@ use Rattle.gate_model.specs.declared.point.Point.{Point}
 use Rattle.gate_model.specs.declared.conversion.Part.{Part}
 use Rattle.gate_model.specs.declared.right.Right.{Right}
 use Rattle.gate_model.specs.declared.phase.Phase.{Phase}
-use Rattle.gate_model.specs.declared.phase.Phase.TheVariants.{Idle, Open, Closed}
+use Rattle.gate_model.specs.declared.phase.Phase.TheVariants.{Idle}
 use Rattle.gate_model.specs.declared.conversion.Request.{Request}
 use Rattle.books.specs.declared.key.Path.{Path}
 

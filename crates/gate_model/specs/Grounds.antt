@@ -1,17 +1,14 @@
 -- When a call is turned down: for each call the grounds in the order of their numbers, each with the line at which it is first met.
-use Rattle.std.specs.Prelude.{ℕ, zero, suc, ◌+◌, ◌-◌, ◌*◌, ◌^◌, Bool, true, false, cond, not, ◌&&◌, ◌||◌, List, [], ◌∷◌, ◌++◌, length, take, ℤ, pos, ◌+ℤ◌, ◌-ℤ◌, ◌*ℤ◌, neg_ℤ, Some, None, Ok, Err, sum_by, Result, ◌==◌, int_le, int_lt, nat_le, nat_lt, unsigned_abs}
+use Rattle.std.specs.Prelude.{ℕ, suc, ◌+◌, ◌^◌, Bool, true, false, cond, not, ◌&&◌, ◌||◌, List, [], ◌∷◌, length, take, ℤ, pos, ◌+ℤ◌, neg_ℤ, Some, None, Ok, Err, sum_by, Result, ◌==◌, int_le, int_lt, nat_le, nat_lt, unsigned_abs}
 use Rattle.gate_model.specs.Sums.{sum_z}
 use Rattle.gate_model.specs.Measures.{Prices, lawful_megawatts, lawful_price, customer, same_period}
 use Rattle.gate_model.specs.Curves.{lawful_bid, lawful_offer, top, in_block}
-use Rattle.gate_model.specs.State.{Account, Body, bid, offer, conversion, Item, State, any, right_at, right_numbered, item_at, item_numbered}
+use Rattle.gate_model.specs.State.{Body, bid, offer, conversion, Item, State, any, right_at, right_numbered, item_at, item_numbered}
 use Rattle.gate_model.specs.Requirement.{mine, unsettled, above, committed}
-use Rattle.gate_model.specs.Effects.{Line, bid_line, offer_line, line_key, stand, submitted, converting, transferred, secured, with_account}
+use Rattle.gate_model.specs.Effects.{Line, bid_line, offer_line, line_key, stand, converting, transferred, secured, with_account}
 use Rattle.gate_model.specs.Calls.{Call, posting, returning, charge, invoice, payment, opening, submission, conversion_of, closing, award, ending, transfer, month_turn, new_book}
 use Rattle.hours.specs.declared.period.Period.{Period}
 use Rattle.hours.specs.declared.fault.Fault.{Fault}
-use Rattle.books.specs.declared.key.Key.{Key}
-use Rattle.gate_model.specs.declared.point.Point.{Point}
-use Rattle.gate_model.specs.declared.conversion.Part.{Part}
 use Rattle.gate_model.specs.declared.conversion.Request.{Request}
 use Rattle.gate_model.specs.declared.right.Right.{Right}
 use Rattle.gate_model.specs.declared.phase.Phase.{Phase}

@@ -1,24 +1,19 @@
 -- What holds after any calls whatever.
-use Rattle.std.specs.Prelude.{◌≡◌, ℕ, ◌+◌, ◌^◌, ◌<◌, ◌≤◌, Bool, true, false, List, [], ◌∷◌, ◌++◌, length, ℤ, pos, ◌+ℤ◌, ◌-ℤ◌, ◌≤ℤ◌, Ok, Err, Result}
+use Rattle.std.specs.Prelude.{◌≡◌, ℕ, ◌+◌, ◌^◌, ◌<◌, ◌≤◌, Bool, true, false, List, [], ◌∷◌, ◌++◌, length, ℤ, pos, ◌+ℤ◌, ◌-ℤ◌, ◌≤ℤ◌, Ok}
 use Rattle.gate_model.specs.Sums.{sum_z}
 use Rattle.std.specs.List.{AllByRecursion}
 use Rattle.gate_model.specs.Measures.{Prices, lawful_megawatts, unfinished}
 use Rattle.gate_model.specs.Curves.{bid_requirement, offer_requirement, conversion_requirement}
-use Rattle.gate_model.specs.State.{Account, Body, bid, offer, conversion, Item, State, right_at}
+use Rattle.gate_model.specs.State.{Account, Body, bid, offer, conversion, State, right_at}
 use Rattle.gate_model.specs.Requirement.{Within, required, mine, unsettled}
-use Rattle.gate_model.specs.Effects.{Line}
 use Rattle.gate_model.specs.Calls.{Call, posting, returning, charge, invoice, payment, opening, submission, conversion_of, closing, award, ending, transfer, month_turn, new_book}
 use Rattle.gate_model.specs.Grounds.{standing_lines, standing_new, customers}
-use Rattle.gate_model.specs.Run.{run, reached}
+use Rattle.gate_model.specs.Run.{reached}
 use Rattle.gate_model.specs.Clearing.{Clears}
 use Rattle.gate_model.specs.Conservation.{held, bought_of, converted_of, sold_of}
-use Rattle.hours.specs.declared.period.Period.{Period}
 use Rattle.books.specs.declared.key.Key.{Key}
-use Rattle.gate_model.specs.declared.point.Point.{Point}
 use Rattle.gate_model.specs.declared.conversion.Part.{Part}
-use Rattle.gate_model.specs.declared.conversion.Request.{Request}
 use Rattle.gate_model.specs.declared.right.Right.{Right}
-use Rattle.gate_model.specs.declared.phase.Shown.{Shown}
 use Rattle.hours.specs.Bounds.{within}
 
 -- the kept price is what the book answers

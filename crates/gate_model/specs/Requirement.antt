@@ -1,11 +1,10 @@
 -- What a customer's position requires, and the security that it has to be within.
-use Rattle.std.specs.Prelude.{ℕ, zero, suc, ◌+◌, ◌-◌, ◌*◌, Bool, cond, ◌&&◌, List, [], ◌∷◌, ℤ, pos, ◌+ℤ◌, ◌-ℤ◌, ◌*ℤ◌, ◌≤ℤ◌, ◌==◌, int_lt, nat_le}
+use Rattle.std.specs.Prelude.{ℕ, zero, suc, ◌+◌, ◌-◌, ◌*◌, Bool, cond, List, ℤ, pos, ◌+ℤ◌, ◌-ℤ◌, ◌*ℤ◌, ◌≤ℤ◌, ◌==◌, int_lt, nat_le}
 use Rattle.gate_model.specs.Money.{max0, floor_z}
 use Rattle.gate_model.specs.Sums.{sum_z}
-use Rattle.gate_model.specs.Curves.{worth, top}
-use Rattle.gate_model.specs.State.{Account, Item, Body, bid, offer, conversion, State, right_at}
+use Rattle.gate_model.specs.Curves.{top}
+use Rattle.gate_model.specs.State.{Account, Item, Body, bid, offer, conversion, State}
 use Rattle.hours.specs.declared.period.Period.{Period}
-use Rattle.books.specs.declared.key.Key.{Key}
 use Rattle.gate_model.specs.declared.right.Right.{Right}
 
 -- z where the owner is c, and else nothing

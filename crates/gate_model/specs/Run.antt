@@ -1,11 +1,11 @@
 -- What a call answers and leaves, and where a list of calls leads from a new gate.
-use Rattle.std.specs.Prelude.{ℕ, ◌+◌, Bool, true, false, cond, List, [], ◌∷◌, ◌++◌, length, ℤ, pos, ◌+ℤ◌, neg_ℤ, fold, ◌==◌}
+use Rattle.std.specs.Prelude.{ℕ, ◌+◌, cond, List, [], ◌∷◌, ◌++◌, length, pos, ◌+ℤ◌, neg_ℤ, fold, ◌==◌}
 use Rattle.gate_model.specs.Measures.{Prices}
 use Rattle.gate_model.specs.State.{State, Body, bid, offer, conversion, new, item_at}
 use Rattle.gate_model.specs.Effects.{with_account, with_phase, secured, charged, submitted, converting, awarded, transferred, turned, rebooked, ended}
 use Rattle.gate_model.specs.Calls.{Call, posting, returning, charge, invoice, payment, opening, submission, conversion_of, closing, award, ending, transfer, month_turn, new_book}
 use Rattle.gate_model.specs.Grounds.{grounds, after_cents, cents}
-use Rattle.gate_model.specs.declared.phase.Phase.TheVariants.{Idle, Open, Closed}
+use Rattle.gate_model.specs.declared.phase.Phase.TheVariants.{Open, Closed}
 use Rattle.gate_model.specs.declared.refusal.Met.{Met}
 use Rattle.gate_model.specs.declared.refusal.Met.TheVariants.{NotMet, MetAt}
 use Rattle.gate_model.specs.declared.refusal.Ground.{Ground}

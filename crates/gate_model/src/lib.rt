@@ -3,6 +3,7 @@
 //!
 //! The types are those that the gate keeps its tables in.
 #![tactic(auto)]
+
 mod call;
 mod conversion;
 mod line;
