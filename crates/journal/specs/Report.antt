@@ -1,5 +1,5 @@
 -- All that is written for the calls of a journal. Assumes nothing.
-use Rattle.std.specs.Prelude.{ℕ, suc, ◌+◌, Bool, true, false, cond, List, [], ◌∷◌, ◌++◌, codes, decimal}
+use Rattle.std.specs.Prelude.{ℕ, ◌+◌, Bool, true, false, cond, List, [], ◌∷◌, ◌++◌, codes, decimal}
 use Rattle.journal.specs.declared.closing.Kind.{Kind}
 use Rattle.journal.specs.declared.closing.Kind.TheVariants.{Taken, Refused, Unreadable}
 use Rattle.journal.specs.declared.outcome.Outcome.{Outcome}

@@ -3,6 +3,7 @@
 //! `word` and `number` tell the words of a line, `line` tells what they say together, `entry` numbers the lines;
 //! `outcome` has the line that is written for a call, `closing` the last line.
 #![tactic(auto)]
+
 mod closing;
 mod entry;
 mod line;

@@ -9,9 +9,9 @@ use Rattle.journal.proofs.closing.outcome_lines.Goals as goal
 pub loop-i-preserved : goal.loop-i-preserved
 loop-i-preserved c =
     let e = at_drop_more (λ (xs : List Outcome). string_bytes c.loop-i.text ++ lines_of xs) c.args.outcomes.now c.loop-i.i (Book) (omega arith) in
-    let s = c.in-ok-shown.ensures in
-    let t = c.as-str.ensures.value in
-    let p = c.in-ok-push-str.ensures.bytes in
+    let s = c.in_ok-shown.ensures in
+    let t = c.as_str.ensures.value in
+    let p = c.in_ok-push_str.ensures.bytes in
     let a = append_assoc (string_bytes c.loop-i.text) (outcome_words (get_or c.args.outcomes.now c.loop-i.i (Book)) ++ codes "\n") (lines_of (drop (c.loop-i.i + 1) c.args.outcomes.now)) in
     let i = c.loop-i.invariant in
     grind arith

@@ -7,10 +7,10 @@ use Rattle.journal.specs.Lines.{numbers_of}
 use Rattle.journal.proofs.Lists.{on_to, on_to-push}
 use Rattle.journal.proofs.line.numbers_of.Goals as goal
 
-pub returns-in-default : goal.returns-in-default
-returns-in-default c =
+pub returns-in_default : goal.returns-in_default
+returns-in_default c =
     let e = at_drop_more (λ (ws : List Word). on_to (vec_items c.loop-i.numbers) (numbers_of ws)) c.args.words.now c.loop-i.i (Verb Posted) (omega arith) in
-    let s = c.in-default.ensures in
+    let s = c.in_default.ensures in
     let i = c.loop-i.invariant in
     grind arith
 
@@ -20,7 +20,7 @@ loop-i-preserved c =
     let s = c.in-Some.ensures in
     let o = on_to-push (vec_items c.loop-i.numbers) c.in-Some.number (numbers_of (drop (c.loop-i.i + 1) c.args.words.now)) in
     let i = c.loop-i.invariant in
-    let p = c.in-ok-push.ensures.items in
+    let p = c.in_ok-push.ensures.items in
     grind arith
 
 pub returns : goal.returns
