@@ -36,9 +36,9 @@ effect s month_turn = (MonthNow (s.month + 1), turned s)
 effect s (new_book p) = (BookNow, rebooked s p)
 
 -- the first ground that is met turns the call down, and the gate stays as it was; where none is met, the call is approved
-abbrev pub decided_by : Ground → Met → State → Outcome × State → Outcome × State
-decided_by ground NotMet s otherwise = otherwise
-decided_by ground (MetAt line fault) s otherwise = (Refused (record { ground = ground; line = line; fault = fault }), s)
+abbrev pub decided_by : (ground : Ground) → Met → State → Outcome × State → Outcome × State
+decided_by g NotMet s otherwise = otherwise
+decided_by g (MetAt line fault) s otherwise = (Refused (record { ground = g; line = line; fault = fault }), s)
 
 abbrev pub decided : List (Ground × Met) → State → Outcome × State → Outcome × State
 decided [] s result = result
