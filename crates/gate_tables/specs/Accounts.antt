@@ -1,5 +1,5 @@
 -- The accounts that a gate keeps, as the accounts of the model.
-use Rattle.std.specs.Prelude.{ℕ, zero, suc, ◌+◌, ◌*◌, Bool, List, [], ℤ, pos, ◌+ℤ◌, ◌-ℤ◌, int_lt, slice_index_or, slice_set}
+use Rattle.std.specs.Prelude.{ℕ, zero, suc, ◌*◌, Bool, List, [], ℤ, pos, ◌+ℤ◌, ◌-ℤ◌, int_lt, slice_index_or, slice_set}
 use Rattle.gate_model.specs.Money.{max0}
 use Rattle.gate_model.specs.State.{Account}
 use Rattle.gate_model.specs.Requirement.{unsettled, charges}

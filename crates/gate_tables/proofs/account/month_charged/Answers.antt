@@ -1,4 +1,4 @@
-use Rattle.std.proofs.Common.{◌≡◌, ℕ, ◌<◌, length, ℤ, ◌+ℤ◌, ap, arith, w64, SFits, rules}
+use Rattle.std.proofs.Common.{ℕ, ◌<◌, length, ℤ, ◌+ℤ◌, ap, arith, w64, SFits, rules}
 use Rattle.gate_model.specs.State.{Account}
 use Rattle.std.proofs.lemmas.Int.{ints, to_z-of_z}
 use Rattle.gate_tables.specs.Accounts.{costs_of}

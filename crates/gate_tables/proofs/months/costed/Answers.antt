@@ -1,5 +1,5 @@
-use Rattle.std.proofs.Common.{◌≡◌, ℕ, ◌+◌, ◌-◌, ◌≤◌, List, length, ℤ, ◌+ℤ◌, ap, ◌∙◌, arith, w64, SFits, rules}
-use Rattle.std.proofs.lemmas.Int.{ints, to_z-of_z}
+use Rattle.std.proofs.Common.{◌≡◌, ℕ, ◌+◌, ◌-◌, List, length, ℤ, ap, ◌∙◌, arith, w64, SFits, rules}
+use Rattle.std.proofs.lemmas.Int.{to_z-of_z}
 use Rattle.gate_model.specs.State.{Account}
 use Rattle.gate_tables.specs.Accounts.{costs_of, raised}
 use Rattle.gate_tables.proofs.MonthCosts.{raised_is_spread, period_end}
@@ -16,4 +16,6 @@ returns c =
     let f3 : SFits w64 a.standing = search rules in
     let m : p.first + p.months - p.first ≡ p.months = omega arith in
     let R : (ℕ → ℤ) → Account = λ f. record { security = a.security; costs = f; invoiced = a.invoiced; calculated = a.calculated; standing = a.standing } in
-    simp to_z-of_z (ap (λ (xs : List ℤ). R (costs_of xs)) (c.raise.ensures ∙ ap (λ k. raised a.costs p.first k c.args.amount) m) ∙ ap R (raised_is_spread a.costs p c.args.amount (omega arith)))
+    let fa : SFits w64 c.args.amount = search rules in
+    let e = simp to_z-of_z at c.raise.ensures in
+    simp to_z-of_z (ap (λ (xs : List ℤ). R (costs_of xs)) (e ∙ ap (λ k. raised a.costs p.first k c.args.amount) m) ∙ ap R (raised_is_spread a.costs p c.args.amount (omega arith)))

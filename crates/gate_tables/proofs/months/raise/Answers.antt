@@ -1,11 +1,11 @@
-use Rattle.std.proofs.Common.{◌≡◌, ℤ, ◌+ℤ◌, sym, ◌∙◌, arith, w64, SFits, rules}
+use Rattle.std.proofs.Common.{◌+ℤ◌, sym, ◌∙◌, arith, w64, SFits, rules}
 use Rattle.std.proofs.lemmas.Int.{ints, to_z-of_z}
 use Rattle.gate_tables.specs.Accounts.{costs_of}
 use Rattle.gate_tables.proofs.MonthCosts.{raise_again, raised_none}
 use Rattle.gate_tables.proofs.months.raise.Goals as goal
 
-pub overflow-add-costs : goal.overflow-add-costs
-overflow-add-costs c =
+pub overflow_add-costs : goal.overflow_add-costs
+overflow_add-costs c =
     let e = c.loop-month.invariant.2 c.loop-month.month (omega arith) in
     let b = c.requires.small c.loop-month.month (omega arith) in
     let f : SFits w64 (costs_of c.loop-month.costs c.loop-month.month) = search rules in
