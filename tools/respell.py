@@ -68,14 +68,28 @@ def proof_files():
     return sorted(glob.glob("crates/*/specs/**/*.antt", recursive=True) + glob.glob("crates/*/proofs/**/*.antt", recursive=True))
 
 
+def fields_of(text):
+    """The fields of the records that a proof file declares."""
+    fields, inside = set(), False
+    for line in text.split("\n"):
+        if re.match(r"\s*(pub )?record ", line):
+            inside = True
+        elif inside and (m := re.match(r"\s+(?:pub )?([^\s:]+) :", line)):
+            fields.add(m[1])
+        elif line.strip() and not line.startswith(" "):
+            inside = False
+    return fields
+
+
 def table():
-    defined, words = set(), set()
+    defined, words, fields = set(), set(), set()
     for path in proof_files():
         with open(path, encoding="utf-8") as f:
             text = bare(f.read())
         for m in SIGNATURE.finditer(text):
             if not m[4].startswith("goal."):
                 defined.add(m[2])
+        fields |= fields_of(text)
         # behind a dot stands a field, or a function's folder
         words.update(m[0] for m in WORD.finditer(text) if text[m.start() - 1 : m.start()] != ".")
     source = ""
@@ -88,10 +102,10 @@ def table():
     names = {n: s for n, s in names.items() if n != s}
     # a name that is taken in a crate that the other does not use (numbersOf), or by the field of which it speaks (seventyFive)
     together = sorted((s, n) for n, s in names.items() if (s in words and n not in ("numbersOf", "seventyFive")) or list(names.values()).count(s) > 1)
-    return names, together
+    return names, together, fields
 
 
-def respell(text, names, inside):
+def respell(text, names, inside, fields=frozenset()):
     """The names of a text that is all antt (or, if not inside, of Rust text, comments or pages)."""
     goals = {m[2] for m in SIGNATURE.finditer(text) if m[4].startswith("goal.")} if inside else set()
 
@@ -100,7 +114,7 @@ def respell(text, names, inside):
         if word not in names or word in goals:
             return word
         dotted = text[m.start() - 1 : m.start()] == "."
-        if dotted and "-" in word and not re.search(r"(^|[\s({])Rattle(\.[\w+]+)+\.$", text[: m.start()][-200:]):
+        if dotted and "-" in word and word not in fields and not re.search(r"(^|[\s({])Rattle(\.[\w+]+)+\.$", text[: m.start()][-200:]):
             return word
         return names[word]
 
@@ -142,7 +156,7 @@ def edit(text, everywhere):
 
 
 def main():
-    names, together = table()
+    names, together, fields = table()
     if "--list" in sys.argv:
         for n, s in sorted(names.items()):
             print(n, s)
@@ -153,7 +167,7 @@ def main():
         return 0
     everywhere = names | {n: spell(n, set()) for n in BEFORE}
     for path in proof_files():
-        write(path, lambda t: respell(t, names, True))
+        write(path, lambda t: respell(t, names, True, fields))
     for path in glob.glob("crates/*/src/**/*.rt", recursive=True):
         write(path, lambda t: outside_strings(t, names))
     for path in glob.glob("crates/*/must-fail/*.edit"):
