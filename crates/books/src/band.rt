@@ -64,7 +64,7 @@ fn clamp(price: i64, low: i64, high: i64) -> i64
 impl<B: Book> Book for Band<B> {
     ghost meaning = { λ b k. banded b.low b.high (B.Book.meaning b.below k) };
 
-    ghost bounded = { first_of (Prim.search rules, Prim.grind (arith, Self.row.coded.inj)) };
+    ghost bounded = { Prim.search rules };
 
     fn price(&self, key: Key) -> Result<i64, Fault> {
         let price = self.below.price(key)?;

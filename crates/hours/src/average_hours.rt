@@ -18,9 +18,9 @@ impl HourSource for Average {
 
     ghost prices = { λ source location slot year. mean_prices source.counts.items source.means.items location slot year };
 
-    ghost some_location = { first_of (Prim.search rules, Prim.grind (arith, Self.row.coded.inj)) };
+    ghost some_location = { Prim.search rules };
 
-    ghost few_locations = { first_of (Prim.search rules, Prim.grind (arith, Self.row.coded.inj)) };
+    ghost few_locations = { Prim.search rules };
 
     ghost few_hours = { λ source slot year. few_hours_lem source.counts.items source.means.items source.lawful slot year };
 

@@ -36,17 +36,17 @@ impl HourSource for Flat {
 
     ghost prices = { λ source location slot year. Some (replicate 24 source.price) };
 
-    ghost some_location = { first_of (Prim.search rules, Prim.grind (arith, Self.row.coded.inj)) };
+    ghost some_location = { Prim.search rules };
 
-    ghost few_locations = { first_of (Prim.search rules, Prim.grind (arith, Self.row.coded.inj)) };
+    ghost few_locations = { Prim.search rules };
 
-    ghost few_hours = { first_of (Prim.search rules, Prim.grind (arith, Self.row.coded.inj)) };
+    ghost few_hours = { Prim.search rules };
 
-    ghost whole_year = { first_of (Prim.search rules, Prim.grind (arith, Self.row.coded.inj)) };
+    ghost whole_year = { Prim.search rules };
 
-    ghost empty_year = { first_of (Prim.search rules, Prim.grind (arith, Self.row.coded.inj)) };
+    ghost empty_year = { Prim.search rules };
 
-    ghost small_prices = { first_of (Prim.search rules, Prim.grind (arith, Self.row.coded.inj)) };
+    ghost small_prices = { Prim.search rules };
 
     fn location_count() -> u8 {
         Self::LOCATIONS

@@ -30,7 +30,7 @@ impl OnePrice {
 impl Book for OnePrice {
     ghost meaning = { λ book key. (if lawful_key key then Ok book.price else Err unlawful_key) };
 
-    ghost bounded = { first_of (Prim.search rules, Prim.grind (arith, Self.row.coded.inj)) };
+    ghost bounded = { Prim.search rules };
 
     fn price(&self, key: Key) -> Result<i64, Fault> {
         if !is_lawful_key(key) {

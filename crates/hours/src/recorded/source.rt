@@ -21,9 +21,9 @@ impl HourSource for Recorded {
 
     ghost prices = { λ source location slot year. recorded_prices source.numbers.items location slot year };
 
-    ghost some_location = { first_of (Prim.search rules, Prim.grind (arith, Self.row.coded.inj)) };
+    ghost some_location = { Prim.search rules };
 
-    ghost few_locations = { first_of (Prim.search rules, Prim.grind (arith, Self.row.coded.inj)) };
+    ghost few_locations = { Prim.search rules };
 
     ghost few_hours = { unfold recorded_hours recorded_prices in λ source slot year. few_hours_lem source.numbers.items slot year };
 
