@@ -1,7 +1,7 @@
 //! A book that holds the prices of the book below between two limits.
 ghost use Rattle.books.specs.Bands.{lawful_limits, held, banded};
 ghost use Rattle.std.specs.Prelude.{◌≡◌, true, is_ok, MatchResult};
-ghost use Rattle.std.proofs.Common.{rules, arith};
+ghost use Rattle.std.proofs.Common.{rules};
 
 use super::book::Book;
 use super::key::Key;

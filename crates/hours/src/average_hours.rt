@@ -1,7 +1,7 @@
 //! Average hours as an hour source.
 ghost use Rattle.hours.specs.Means.{rows_count, mean_prices};
 ghost use Rattle.hours.specs.LawfulRows.{few_hours_lem, whole_year_lem, empty_year_lem, small_prices_lem};
-ghost use Rattle.std.proofs.Common.{rules, arith};
+ghost use Rattle.std.proofs.Common.{rules};
 
 use super::average::Average;
 use super::fault::{Fault, lacking_year, past_count, unknown_location, unlawful_question};

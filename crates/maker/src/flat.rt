@@ -1,7 +1,7 @@
 //! An hour source: one location, with the same price in each of the 24 hours of every year.
 ghost use Rattle.hours.specs.Bounds.{Within, within};
 ghost use Rattle.std.specs.Prelude.{◌≡◌, false, replicate, Some, MatchOption};
-ghost use Rattle.std.proofs.Common.{rules, arith};
+ghost use Rattle.std.proofs.Common.{rules};
 
 use hours::{
     Fault, HourSource, Slot, is_lawful_slot, is_lawful_year, is_past_year, past_count,

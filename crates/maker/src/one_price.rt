@@ -3,7 +3,7 @@ ghost use Rattle.books.specs.BookFaults.{unlawful_key};
 ghost use Rattle.books.specs.Keys.{lawful_key};
 ghost use Rattle.hours.specs.Bounds.{Within, within};
 ghost use Rattle.std.specs.Prelude.{◌≡◌, false, if◌then◌else◌, Ok, Err, MatchOption};
-ghost use Rattle.std.proofs.Common.{rules, arith};
+ghost use Rattle.std.proofs.Common.{rules};
 
 use books::{Book, Key, is_lawful_key, unlawful_key};
 use hours::Fault;

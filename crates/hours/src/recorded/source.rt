@@ -1,7 +1,7 @@
 //! Recorded hours as an hour source.
 ghost use Rattle.hours.specs.RecordedFormat.{recorded_hours, recorded_prices};
 ghost use Rattle.hours.specs.RecordedAnswers.{few_hours_lem, whole_year_lem, empty_year_lem, small_prices_lem};
-ghost use Rattle.std.proofs.Common.{rules, arith};
+ghost use Rattle.std.proofs.Common.{rules};
 
 use super::entry::{RECORDED_LOCATIONS, hours_by};
 use super::made::Recorded;
