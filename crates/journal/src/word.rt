@@ -1,7 +1,7 @@
 //! The words of a line. From here on no bytes are looked at.
 ghost use Rattle.std.specs.Prelude.{◌≡◌, ◌++◌, IfOk, OnOk};
 ghost use Rattle.std.specs.Str.{bytes_eq};
-ghost use Rattle.journal.specs.Words.{sized as sizedOf, number_of, verb_of, word_of, one_word, words_of};
+ghost use Rattle.journal.specs.Words.{sized as sized_of, number_of, verb_of, word_of, one_word, words_of};
 
 use std::alloc::{AllocError, Global};
 use text::{Misread, Stop, run, size_of};
@@ -82,7 +82,7 @@ fn verb_of(word: &[u8]) -> Option<Verb>
 
 /// A size that 64 bits do not hold is beyond every range that a number of a journal can have.
 fn sized(minus: bool, size: Result<u64, Misread>) -> Option<Word>
-    ensures { result ≡ sizedOf minus size }
+    ensures { result ≡ sized_of minus size }
 {
     match size {
         Ok(size) => Some(Word::Number { minus, size }),

@@ -1,5 +1,5 @@
 //! An hour source and a price book of a maker's own, in full: what each means, and that it answers by it.
-//! The prover needs no help with either.
+//! The prover finds what each has to show by itself.
 #![tactic(auto)]
 
 mod flat;
