@@ -52,9 +52,9 @@ standing_passed stands test i s (l ∷ ls) e =
     (elim (test s l) as (λ b. test s l ≡ b → cond b (MetAt i None) (at_standing stands test (suc i) (stands s l) ls) ≡ NotMet → (test s l ≡ false) × Passes stands test (stands s l) ls)
     [ true ↦ λ _ k. absurd (met_is_not_NotMet i None k) | false ↦ λ q k. (q, r k) ]) refl e
 
-pub prices_passed : {X : Type 0} (asked : X → Result ℤ Fault) (Line-of : ℕ → X → ℕ) (i : ℕ) (ls : List X) → at_price asked Line-of i ls ≡ NotMet → AllByRecursion (λ l. asked l ≡ Ok (price_or_zero (asked l))) ls
-prices_passed asked Line-of i [] e = tt
-prices_passed asked Line-of i (l ∷ ls) e =
-    let r = prices_passed asked Line-of (suc i) ls in
-    (elim (asked l) as (λ a. unless_priced a (Line-of i l) (at_price asked Line-of (suc i) ls) ≡ NotMet → (a ≡ Ok (price_or_zero a)) × AllByRecursion (λ l. asked l ≡ Ok (price_or_zero (asked l))) ls)
-    [ Ok p ↦ λ k. (refl, r k) | Err f ↦ λ k. absurd (met_is_not_NotMet (Line-of i l) (Some f) k) ]) e
+pub prices_passed : {X : Type 0} (asked : X → Result ℤ Fault) (line_of : ℕ → X → ℕ) (i : ℕ) (ls : List X) → at_price asked line_of i ls ≡ NotMet → AllByRecursion (λ l. asked l ≡ Ok (price_or_zero (asked l))) ls
+prices_passed asked line_of i [] e = tt
+prices_passed asked line_of i (l ∷ ls) e =
+    let r = prices_passed asked line_of (suc i) ls in
+    (elim (asked l) as (λ a. unless_priced a (line_of i l) (at_price asked line_of (suc i) ls) ≡ NotMet → (a ≡ Ok (price_or_zero a)) × AllByRecursion (λ l. asked l ≡ Ok (price_or_zero (asked l))) ls)
+    [ Ok p ↦ λ k. (refl, r k) | Err f ↦ λ k. absurd (met_is_not_NotMet (line_of i l) (Some f) k) ]) e

@@ -42,8 +42,8 @@ unless_priced (Err f) line m = MetAt line (Some f)
 
 -- the first line whose key has no price
 abbrev pub at_price : {X : Type 0} → (X → Result ℤ Fault) → (ℕ → X → ℕ) → ℕ → List X → Met
-at_price asked Line-of i [] = NotMet
-at_price asked Line-of i (l ∷ ls) = unless_priced (asked l) (Line-of i l) (at_price asked Line-of (suc i) ls)
+at_price asked line_of i [] = NotMet
+at_price asked line_of i (l ∷ ls) = unless_priced (asked l) (line_of i l) (at_price asked line_of (suc i) ls)
 
 -- 3
 abbrev pub shows_open : Phase → Shown → Bool

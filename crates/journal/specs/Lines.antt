@@ -9,7 +9,7 @@ use Rattle.journal.specs.declared.line.Said.TheVariants as said
 use Rattle.journal.specs.declared.word.Verb.{Verb}
 use Rattle.journal.specs.declared.word.Verb.TheVariants as verbs
 use Rattle.journal.specs.declared.word.Word.{Word}
-use Rattle.journal.specs.declared.word.Word.TheVariants.{Verb as A-verb, Semicolon, Number, Other}
+use Rattle.journal.specs.declared.word.Word.TheVariants.{Verb as a_verb, Semicolon, Number, Other}
 use Rattle.journal.specs.Words.{at, byte_of, count_of, cents_of, hour_of, omap, or_else}
 
 abbrev pub obind : {A B : Type 0} → Option A → (A → Option B) → Option B
@@ -117,7 +117,7 @@ verb_line verbs.Price ws = omap (λ p. plain p) (plain_line verbs.Price ws)
 
 -- the first word has to be a verb
 abbrev pub call_by : Word → List Word → Option Meant
-call_by (A-verb v) ws = verb_line v ws
+call_by (a_verb v) ws = verb_line v ws
 call_by Semicolon ws = None
 call_by (Number m n) ws = None
 call_by Other ws = None

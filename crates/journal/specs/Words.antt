@@ -8,7 +8,7 @@ use Rattle.text.specs.Pieces.{stops, run, split}
 use Rattle.journal.specs.declared.word.Verb.{Verb}
 use Rattle.journal.specs.declared.word.Verb.TheVariants.{Posted, Row, Average, Count, Mean, Recorded, Numbers, Proxy, History, Band, Seat, Price}
 use Rattle.journal.specs.declared.word.Word.{Word}
-use Rattle.journal.specs.declared.word.Word.TheVariants.{Verb as A-verb, Semicolon, Number, Other}
+use Rattle.journal.specs.declared.word.Word.TheVariants.{Verb as a_verb, Semicolon, Number, Other}
 
 -- a size with its sign, if it is one
 abbrev pub sized : Bool → Result ℕ Misread → Option Word
@@ -48,7 +48,7 @@ omap f (Some x) = Some (f x)
 
 -- a word is a number, a verb, a semicolon, or nothing that is known
 abbrev pub word_of : List ℕ → Word
-word_of w = or_else (otherwise (number_of w) (omap (λ v. A-verb v) (verb_of w))) (cond (bytes_eq w (codes ";")) Semicolon Other)
+word_of w = or_else (otherwise (number_of w) (omap (λ v. a_verb v) (verb_of w))) (cond (bytes_eq w (codes ";")) Semicolon Other)
 
 -- what stands between two blanks is a word unless it is empty
 abbrev pub one_word : List ℕ → List Word
@@ -68,7 +68,7 @@ at ws i = slice_index_or ws i Other
 
 -- the number that a word is, where it has no minus and is at most m
 abbrev pub up_to : ℕ → Word → Option ℕ
-up_to m (A-verb v) = None
+up_to m (a_verb v) = None
 up_to m Semicolon = None
 up_to m (Number true n) = None
 up_to m (Number false n) = cond (nat_le n m) (Some n) None
@@ -84,7 +84,7 @@ count_of w = up_to 4294967295 w
 
 -- the signed number that a word is, from -m to m - 1
 abbrev pub around : ℕ → Word → Option ℤ
-around m (A-verb v) = None
+around m (a_verb v) = None
 around m Semicolon = None
 around m (Number true n) = cond (nat_le n m) (Some (neg_ℤ (pos n))) None
 around m (Number false n) = cond (nat_lt n m) (Some (pos n)) None
