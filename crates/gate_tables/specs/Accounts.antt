@@ -1,5 +1,5 @@
 -- The accounts that a gate keeps, as the accounts of the model.
-use Rattle.std.specs.Prelude.{ℕ, zero, suc, ◌*◌, Bool, List, [], ℤ, pos, ◌+ℤ◌, ◌-ℤ◌, int_lt, slice_index_or, slice_set}
+use Rattle.std.specs.Prelude.{ℕ, ◌*◌, Bool, List, [], ℤ, pos, ◌+ℤ◌, ◌-ℤ◌, int_lt, slice_index_or}
 use Rattle.gate_model.specs.Money.{max0}
 use Rattle.gate_model.specs.State.{Account}
 use Rattle.gate_model.specs.Requirement.{unsettled, charges}
@@ -18,11 +18,6 @@ no_account = record { security = 0; costs = []; invoiced = pos 0; calculated = p
 -- the accounts by customer
 abbrev pub accounts_of : List Kept → ℕ → Account
 accounts_of xs c = account_of (slice_index_or xs c no_account)
-
--- z more in the month a, and so on for n months
-abbrev pub raised : List ℤ → ℕ → ℕ → ℤ → List ℤ
-raised xs a zero z = xs
-raised xs a (suc n) z = raised (slice_set xs a (costs_of xs a +ℤ z)) (suc a) n z
 
 -- what an account requires whose customer's rights are worth v
 abbrev pub total_of : ℕ → ℤ → Account → ℤ
