@@ -1,1 +1,2 @@
 pub mod MonthCosts
+pub mod Totals

@@ -2,8 +2,9 @@
 ghost use Rattle.std.specs.Prelude.{◌≡◌, ℕ, pos, ◌≤ℤ◌};
 ghost use Rattle.gate_model.specs.Money.{max0};
 ghost use Rattle.hours.specs.Bounds.{Within};
+ghost use Rattle.gate_model.specs.State.{State};
 ghost use Rattle.gate_model.specs.Requirement as rules;
-ghost use Rattle.gate_tables.specs.Accounts.{account_of, total_of, above_of};
+ghost use Rattle.gate_tables.specs.Accounts.{account_of, total_of, above_of, IsOf};
 
 use crate::account::Account;
 
@@ -37,7 +38,8 @@ pub fn charges(account: &Account) -> i128
 
 /// A negative holding pays for what stands, and not for charges.
 pub fn total(account: &Account, month: u8, values: i64) -> i128
-    ensures { result ≡ total_of month values (account_of account.now) }
+    ensures value { result ≡ total_of month values (account_of account.now) }
+    ensures rule { (s : State) (c : ℕ) → IsOf s c month values (account_of account.now) → result ≡ rules.total s c }
 {
     let holding = unsettled(account, month) - values as i128;
     let covered = at_least_zero(holding + account.standing as i128);
@@ -46,7 +48,8 @@ pub fn total(account: &Account, month: u8, values: i64) -> i128
 
 /// A cent is 120 twelfths.
 pub fn is_above(account: &Account, month: u8, values: i64) -> bool
-    ensures { result ≡ above_of month values (account_of account.now) }
+    ensures value { result ≡ above_of month values (account_of account.now) }
+    ensures rule { (s : State) (c : ℕ) → IsOf s c month values (account_of account.now) → result ≡ rules.above s c }
 {
     total(account, month, values) > 120 * account.security as i128
 }

@@ -5,6 +5,7 @@ use Rattle.hours.specs.Bounds.{Within}
 use Rattle.gate_model.specs.Money.{max0}
 use Rattle.gate_model.specs.Requirement.{unsettled}
 use Rattle.gate_tables.specs.Accounts.{account_of}
+use Rattle.gate_tables.proofs.Totals.{total_is}
 use Rattle.gate_tables.proofs.requirement.total.Goals as goal
 
 -- the sum of what covers the items and the charges, in 128 bits
@@ -29,8 +30,8 @@ overflow_add-result c =
     let w = c.at_least_zero-covered.ensures.small (2 ^ 72) (subst (λ (z : ℤ). z ≤ℤ pos (2 ^ 72)) (sym e) l) in
     sum_fits c.at_least_zero-covered.result c.charges.result w c.charges.ensures.small
 
-pub returns : goal.returns
-returns c =
+pub returns-clause-value : goal.returns-clause-value
+returns-clause-value c =
     let f : SFits w64 c.args.account.now.standing = search rules in
     let e = covered_is c.unsettled.result c.args.values c.args.account.now.standing c.unsettled.ensures.small c.ranges.values f in
     let l = covered_small c.unsettled.result c.args.values c.args.account.now.standing c.unsettled.ensures.small c.ranges.values f in
@@ -39,3 +40,6 @@ returns c =
     sum_is c.at_least_zero-covered.result c.charges.result w c.charges.ensures.small
     ∙ ap (λ (z : ℤ). z +ℤ c.charges.result) covered
     ∙ ap (λ (z : ℤ). max0 ((unsettled c.args.month (account_of c.args.account.now) -ℤ c.args.values) +ℤ c.args.account.now.standing) +ℤ z) c.charges.ensures.value
+
+pub returns-clause-rule : goal.returns-clause-rule
+returns-clause-rule c s k e = returns-clause-value c ∙ total_is s k c.args.month c.args.values (account_of c.args.account.now) e
