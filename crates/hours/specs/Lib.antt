@@ -1,15 +1,15 @@
 pub mod Bounds
 pub mod Periods
+pub mod Counting
 pub mod Faults
 pub mod Questions
-pub mod Lookups
+pub mod Listings
 pub mod Means
 pub mod StandIns
 pub mod Refusals
 pub mod RecordedEntries
 pub mod RecordedFormat
 pub mod RecordedTables
-pub mod RecordedReading
 pub mod RecordedSpans
 pub mod LawfulRows
 pub mod Years

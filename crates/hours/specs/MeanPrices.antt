@@ -147,7 +147,7 @@ abbrev pub proxied_prices : ℕ → (Slot → ℕ → ℕ) → (ℕ → Slot →
 proxied_prices locations hours prices l s y = proxied (λ k. prices k s y) locations (hours s y) l
 
 -- a fault that is not for want of the year is not mended by the proxy
-pub proxied_fault : (locations : ℕ) (hours : Slot → ℕ → ℕ) (prices : ℕ → Slot → ℕ → Option (List ℤ)) (l : ℕ) (s : Slot) (y h : ℕ) (e : Fault) → (e.cause ≢ LackingYear) →
+pub proxied_fault : (locations : ℕ) (hours : Slot → ℕ → ℕ) (prices : ℕ → Slot → ℕ → Option (List ℤ)) (l : ℕ) (s : Slot) (y h : ℕ) (e : Fault) → (e.cause ≢ LackingYear l y) →
     Err e ≡ priced locations prices l s y h → Err e ≡ priced locations (proxied_prices locations hours prices) l s y h
 proxied_fault locations hours prices l s y h e other q = lawful (lawful_slot s && past_year y) q
   where

@@ -5,9 +5,17 @@ use Rattle.hours.specs.declared.period.Slot.{Slot}
 use Rattle.hours.specs.Faults.{unlawful_question, unknown_location, lacking_year, past_count}
 use Rattle.hours.specs.Periods.{lawful_slot, lawful_year, past_year}
 
+-- whether hours of a slot can be counted in a year
+abbrev pub countable : Slot → ℕ → Result Unit Fault
+countable s y = cond (lawful_slot s && lawful_year y) (Ok tt) (Err unlawful_question)
+
 -- how many hours a slot has in a year
 abbrev pub counted : (Slot → ℕ → ℕ) → Slot → ℕ → Result ℕ Fault
 counted count s y = cond (lawful_slot s && lawful_year y) (Ok (count s y)) (Err unlawful_question)
+
+-- whether a source that knows so many locations can be asked for the prices of a year: first the question is looked at, then the location
+abbrev pub askable : ℕ → ℕ → Slot → ℕ → Result Unit Fault
+askable locations l s y = cond (lawful_slot s && past_year y) (cond (nat_lt l locations) (Ok tt) (Err (unknown_location l))) (Err unlawful_question)
 
 -- the prices of a year, if the location has them
 abbrev pub present : Option (List ℤ) → ℕ → ℕ → Result (List ℤ) Fault

@@ -4,14 +4,15 @@ use Rattle.std.proofs.Common.{sym, ap, ◌∙◌, subst, arith}
 use Rattle.std.proofs.lemmas.List.{drop_at, drop-drop}
 use Rattle.std.proofs.lemmas.Bool.{lt-ltb, le-ltb}
 use Rattle.std.proofs.lemmas.Bool.Decides.{nat_tests}
-use Rattle.hours.specs.declared.recorded.entry.Counts.{Counts}
-use Rattle.hours.specs.declared.recorded.entry.Entry.{Entry}
+use Rattle.std.proofs.lemmas.Option.{none-some, cond_some}
+use Rattle.hours.specs.declared.counts.Counts.{Counts}
+use Rattle.hours.specs.declared.rows.CountRow.{CountRow}
 use Rattle.hours.specs.declared.recorded.entry.Head.{Head}
 use Rattle.hours.specs.declared.recorded.tables.Tables.{Tables}
 use Rattle.hours.specs.RecordedEntries.{and_then, entry_from, head_from, fitting, hours_by, lawful_price, LawfulSeries}
 use Rattle.hours.specs.RecordedFormat.{and_then_ok, or_refused, Prices, Taken, Records, lists, no_records, counts_among, prices_among, unlisted, entry_at, read_entries, read_prices, head_at, prices_after, year_at, read_years, nothing_more, second_section, onward, both_sections, records, checked, or_instead, records_of}
 use Rattle.hours.specs.RecordedTables.{tabled_counts, has_start, with_entry, with_series, in_tables, empty_tables, tables_read, tables_of}
-use Rattle.hours.specs.RecordedLawful.{not_none, through, passed, entry_lawful, entry_few, head_lawful}
+use Rattle.hours.specs.RecordedLawful.{through, entry_lawful, entry_few, head_lawful}
 use Rattle.hours.specs.RecordedTablesLemmas.{Stands, Near, Same, same_none, same_entry, same_year}
 
 -- an entry of the first section is the same to both
@@ -19,23 +20,23 @@ use Rattle.hours.specs.RecordedTablesLemmas.{Stands, Near, Same, same_none, same
 same_entry_at : (all : List ℤ) (t : Tables) (r : Records) (xs : List ℤ) → Same all t r → entry_at in_tables t xs ≡ entry_at lists r xs
 same_entry_at all t r xs same = go (entry_from (take 6 xs)) (λ e h. same.looks e.slot (entry_lawful (take 6 xs) e h))
   where
-    go : (o : Option Entry) → ((e : Entry) → o ≡ Some e → tabled_counts t e.slot ≡ counts_among r.listed e.slot) →
+    go : (o : Option (CountRow ℕ)) → ((e : CountRow ℕ) → o ≡ Some e → tabled_counts t e.slot ≡ counts_among r.listed e.slot) →
         cond (nat_le 6 (length xs)) (and_then o (λ e. unlisted (tabled_counts t e.slot) (Some e))) None ≡ cond (nat_le 6 (length xs)) (and_then o (λ e. unlisted (counts_among r.listed e.slot) (Some e))) None
     go None h = refl
-    go (Some e) h = ap (λ (l : Option Counts). cond (nat_le 6 (length xs)) (unlisted l (Some e)) None) (h e refl)
+    go (Some e) h = ap (λ (l : Option (Counts ℕ)). cond (nat_le 6 (length xs)) (unlisted l (Some e)) None) (h e refl)
 
-entry_found : (r : Records) (xs : List ℤ) (e : Entry) → entry_at lists r xs ≡ Some e → entry_from (take 6 xs) ≡ Some e
+entry_found : (r : Records) (xs : List ℤ) (e : CountRow ℕ) → entry_at lists r xs ≡ Some e → entry_from (take 6 xs) ≡ Some e
 entry_found r xs e h = at_test (nat_le 6 (length xs)) h
   where
-    old : (o : Option Counts) (d : Entry) → unlisted o (Some d) ≡ Some e → d ≡ e
+    old : (o : Option (Counts ℕ)) (d : CountRow ℕ) → unlisted o (Some d) ≡ Some e → d ≡ e
     old None d p = cc
-    old (Some x) d p = not_none e p
+    old (Some x) d p = absurd (none-some e p)
 
     at_test : (b : Bool) → cond b (and_then (entry_from (take 6 xs)) (λ d. unlisted (counts_among r.listed d.slot) (Some d))) None ≡ Some e → entry_from (take 6 xs) ≡ Some e
     at_test true p =
         let q = through (entry_from (take 6 xs)) _ e p in
         q.1 ∙ ap Some (old (counts_among r.listed q.0.slot) q.0 q.2)
-    at_test false p = not_none e p
+    at_test false p = absurd (none-some e p)
 
 -- an entry of the second section is the same to both
 
@@ -55,7 +56,7 @@ same_year_at all t r xs same =
         cond (nat_le 6 (length xs)) (and_then o (λ h. cond (fitting (tabled_counts t h.series.slot) (has_start t h.series) h) (Some h) None)) None ≡ cond (nat_le 6 (length xs)) (and_then o (λ h. cond (fitting (counts_among r.listed h.series.slot) (is_some (prices_among r.years h.series)) h) (Some h) None)) None
     go None f = refl
     go (Some h) f =
-        ap (λ (l : Option Counts). cond (nat_le 6 (length xs)) (cond (fitting l (has_start t h.series) h) (Some h) None) None) (f h refl).0
+        ap (λ (l : Option (Counts ℕ)). cond (nat_le 6 (length xs)) (cond (fitting l (has_start t h.series) h) (Some h) None) None) (f h refl).0
         ∙ ap (λ (b : Bool). cond (nat_le 6 (length xs)) (cond (fitting (counts_among r.listed h.series.slot) b h) (Some h) None) None) (f h refl).1
 
 -- what the prices at the front are
@@ -69,7 +70,7 @@ price_facts : (k : ℕ) (xs : List ℤ) (p : Prices) → read_prices k xs ≡ So
 price_facts zero xs p e =
     let q : ◌≡◌ {A = Prices} (record { these = []; rest = xs }) p = cc in
     subst (PriceFacts 0 xs) q (record { split = refl; long = refl; near = λ n. refl })
-price_facts (suc k) [] p e = not_none p e
+price_facts (suc k) [] p e = absurd (none-some p e)
 price_facts (suc k) (x ∷ xs) p e = at_test (lawful_price x) refl (price_facts k xs) e
   where
     more : (ys : List ℤ) → lawful_price x ≡ true → Near ys → Near (x ∷ ys)
@@ -78,7 +79,7 @@ price_facts (suc k) (x ∷ xs) p e = at_test (lawful_price x) refl (price_facts 
 
     at_test : (b : Bool) → lawful_price x ≡ b → ((p : Prices) → read_prices k xs ≡ Some p → PriceFacts k xs p) →
         cond b (and_then (read_prices k xs) (λ p. Some (record { these = x ∷ p.these; rest = p.rest }))) None ≡ Some p → PriceFacts (suc k) (x ∷ xs) p
-    at_test false i again h = not_none p h
+    at_test false i again h = absurd (none-some p h)
     at_test true i again h =
         let a = through (read_prices k xs) _ p h in
         let w = a.2 in
@@ -95,16 +96,16 @@ head_facts : (r : Records) (xs : List ℤ) (h : Head) → head_at lists r xs ≡
 unfolding Fits
 head_facts r xs h e = at_test (nat_le 6 (length xs)) e
   where
-    fits : (o : Option Counts) (b : Bool) (d : Head) → fitting o b d ≡ true → (d.hours ≡ hours_by o d.series.year) × (0 < d.hours)
+    fits : (o : Option (Counts ℕ)) (b : Bool) (d : Head) → fitting o b d ≡ true → (d.hours ≡ hours_by o d.series.year) × (0 < d.hours)
     fits o b d q = (grind (arith, nat_tests), grind (arith, nat_tests))
 
     at_test : (b : Bool) → cond b (and_then (head_from (take 6 xs)) (λ h. cond (fitting (counts_among r.listed h.series.slot) (is_some (prices_among r.years h.series)) h) (Some h) None)) None ≡ Some h → LawfulSeries h.series × (h.hours ≡ hours_by (counts_among r.listed h.series.slot) h.series.year) × (0 < h.hours)
-    at_test false p = not_none h p
+    at_test false p = absurd (none-some h p)
     at_test true p =
         let a = through (head_from (take 6 xs)) _ h p in
-        let w = passed (fitting (counts_among r.listed a.0.series.slot) (is_some (prices_among r.years a.0.series)) a.0) a.0 h a.2 in
-        let f = fits (counts_among r.listed a.0.series.slot) (is_some (prices_among r.years a.0.series)) a.0 w.1 in
-        subst (λ (h : Head). LawfulSeries h.series × (h.hours ≡ hours_by (counts_among r.listed h.series.slot) h.series.year) × (0 < h.hours)) w.0 ((head_lawful (take 6 xs) a.0 a.1).0, f.0, f.1)
+        let w = cond_some (fitting (counts_among r.listed a.0.series.slot) (is_some (prices_among r.years a.0.series)) a.0) a.0 h a.2 in
+        let f = fits (counts_among r.listed a.0.series.slot) (is_some (prices_among r.years a.0.series)) a.0 w.0 in
+        subst (λ (h : Head). LawfulSeries h.series × (h.hours ≡ hours_by (counts_among r.listed h.series.slot) h.series.year) × (0 < h.hours)) w.1 ((head_lawful (take 6 xs) a.0 a.1).0, f.0, f.1)
 
 pub record YearFacts (r : Records) (xs : List ℤ) (y : Taken) : Type 0 where
   pub lawful : LawfulSeries y.head.series
@@ -166,13 +167,13 @@ entries_alike : (all : List ℤ) (n : ℕ) (t : Tables) (r : Records) (line : �
 unfolding Alike
 entries_alike all zero t r line xs same none d = second_alike all t r line xs same d
 entries_alike all (suc n) t r line xs same none d =
-    subst (λ (o : Option Entry). Alike all (and_then_ok (or_refused o line (λ e. read_entries in_tables n (with_entry t e) (line + 1) (drop 6 xs))) (onward in_tables)) (and_then_ok (or_refused (entry_at lists r xs) line (λ e. read_entries lists n (lists.list r e) (line + 1) (drop 6 xs))) (onward lists))) (sym (same_entry_at all t r xs same))
+    subst (λ (o : Option (CountRow ℕ)). Alike all (and_then_ok (or_refused o line (λ e. read_entries in_tables n (with_entry t e) (line + 1) (drop 6 xs))) (onward in_tables)) (and_then_ok (or_refused (entry_at lists r xs) line (λ e. read_entries lists n (lists.list r e) (line + 1) (drop 6 xs))) (onward lists))) (sym (same_entry_at all t r xs same))
     (go (entry_at lists r xs) (λ e h.
     let w = entry_found r xs e h in
     entries_alike all n (with_entry t e) (lists.list r e) (line + 1) (drop 6 xs) (same_entry all t r e (entry_lawful (take 6 xs) e w) (entry_few (take 6 xs) e w) none same) none
     (sym (drop-drop 6 t.next all) ∙ ap (drop 6) d ∙ drop-drop 6 1 xs ∙ sym (drop-drop 1 6 xs))))
   where
-    go : (o : Option Entry) → ((e : Entry) → o ≡ Some e → Alike all (and_then_ok (read_entries in_tables n (with_entry t e) (line + 1) (drop 6 xs)) (onward in_tables)) (and_then_ok (read_entries lists n (lists.list r e) (line + 1) (drop 6 xs)) (onward lists))) →
+    go : (o : Option (CountRow ℕ)) → ((e : CountRow ℕ) → o ≡ Some e → Alike all (and_then_ok (read_entries in_tables n (with_entry t e) (line + 1) (drop 6 xs)) (onward in_tables)) (and_then_ok (read_entries lists n (lists.list r e) (line + 1) (drop 6 xs)) (onward lists))) →
         Alike all (and_then_ok (or_refused o line (λ e. read_entries in_tables n (with_entry t e) (line + 1) (drop 6 xs))) (onward in_tables)) (and_then_ok (or_refused o line (λ e. read_entries lists n (lists.list r e) (line + 1) (drop 6 xs))) (onward lists))
     go None h = refl
     go (Some e) h = h e refl

@@ -1,21 +1,18 @@
 -- The entries of recorded hours, each taken from its own numbers.
-use Rattle.std.specs.Prelude.{◌≡◌, ℕ, ◌≤◌, Bool, true, false, cond, not, ◌&&◌, List, ℤ, pos, Some, None, Option, ◌==◌, int_le, nat_le, slice_index_or, unsigned_abs}
+use Rattle.std.specs.Prelude.{◌≡◌, ℕ, ◌≤◌, Bool, true, cond, not, ◌&&◌, List, ℤ, pos, Some, None, Option, ◌==◌, int_le, nat_le, slice_index_or, unsigned_abs}
 use Rattle.hours.specs.declared.period.Slot.{Slot}
-use Rattle.hours.specs.declared.recorded.entry.Counts.{Counts}
-use Rattle.hours.specs.declared.recorded.entry.Entry.{Entry}
-use Rattle.hours.specs.declared.recorded.entry.Series.{Series}
+use Rattle.hours.specs.declared.counts.Counts.{Counts}
+use Rattle.hours.specs.declared.rows.CountRow.{CountRow}
+use Rattle.hours.specs.declared.series.Series.{Series}
 use Rattle.hours.specs.declared.recorded.entry.Head.{Head}
 use Rattle.hours.specs.Bounds.{within}
+use Rattle.hours.specs.Counting.{hours_of}
 use Rattle.hours.specs.Periods.{lawful_slot, past_year, same_slot}
 
 -- what is made of a value, if there is one
 abbrev pub and_then : {A B : Type 0} → Option A → (A → Option B) → Option B
 and_then None make = None
 and_then (Some a) make = make a
-
-abbrev pub is_none : {A : Type 0} → Option A → Bool
-is_none None = true
-is_none (Some a) = false
 
 -- a number from 0 to a bound
 abbrev pub up_to : ℕ → ℤ → Option ℕ
@@ -28,7 +25,7 @@ slot_from first months class =
     cond (lawful_slot (record { period = record { first = f; months = n }; class = c })) (Some (record { period = record { first = f; months = n }; class = c })) None)))
 
 -- an entry of the first section by its six numbers: first month, months, class, and the hours of the recent year, of the distant year and ahead
-abbrev pub entry_from : List ℤ → Option Entry
+abbrev pub entry_from : List ℤ → Option (CountRow ℕ)
 entry_from xs =
     and_then (slot_from (slice_index_or xs 0 (pos 0)) (slice_index_or xs 1 (pos 0)) (slice_index_or xs 2 (pos 0))) (λ slot.
     and_then (up_to 9000 (slice_index_or xs 3 (pos 0))) (λ recent. and_then (up_to 9000 (slice_index_or xs 4 (pos 0))) (λ distant. and_then (up_to 9000 (slice_index_or xs 5 (pos 0))) (λ ahead.
@@ -43,12 +40,12 @@ head_from xs =
     Some (record { series = record { location = location; slot = slot; year = year }; hours = hours })))))
 
 -- the hours of a year by the counts of its slot: 0 where the slot is not listed
-abbrev pub hours_by : Option Counts → ℕ → ℕ
+abbrev pub hours_by : Option (Counts ℕ) → ℕ → ℕ
 hours_by None year = 0
-hours_by (Some c) year = cond (year == 0) c.recent (cond (year == 1) c.distant (cond (year == 2) c.ahead 0))
+hours_by (Some c) year = hours_of c year
 
 -- whether the entry of a head may stand: it has at least one hour, as many as the counts of its slot say, and it is not there already
-abbrev pub fitting : Option Counts → Bool → Head → Bool
+abbrev pub fitting : Option (Counts ℕ) → Bool → Head → Bool
 fitting known there h = nat_le 1 h.hours && (h.hours == hours_by known h.series.year && not there)
 
 -- a price is within 200,000 cents either way

@@ -10,9 +10,9 @@
 use Rattle.std.specs.Prelude.{ℕ, zero, suc, ◌+◌, Bool, cond, List, [], ◌∷◌, length, take, drop, ℤ, pos, is_some, Some, None, Ok, Err, Option, Result, int_le, nat_le, unsigned_abs}
 use Rattle.hours.specs.declared.period.Slot.{Slot}
 use Rattle.hours.specs.declared.unlawful.Unlawful.{Unlawful}
-use Rattle.hours.specs.declared.recorded.entry.Counts.{Counts}
-use Rattle.hours.specs.declared.recorded.entry.Entry.{Entry}
-use Rattle.hours.specs.declared.recorded.entry.Series.{Series}
+use Rattle.hours.specs.declared.counts.Counts.{Counts}
+use Rattle.hours.specs.declared.rows.CountRow.{CountRow}
+use Rattle.hours.specs.declared.series.Series.{Series}
 use Rattle.hours.specs.declared.recorded.entry.Head.{Head}
 use Rattle.hours.specs.Periods.{same_slot}
 use Rattle.hours.specs.RecordedEntries.{and_then, entry_from, head_from, fitting, lawful_price, same_series, hours_by}
@@ -24,11 +24,11 @@ pub record Year : Type 0 where
 
 -- what the numbers say: the entries of the two sections, the last one first
 pub record Records : Type 0 where
-  pub listed : List Entry
+  pub listed : List (CountRow ℕ)
   pub years : List Year
 
 -- the counts of a slot among these entries
-abbrev pub counts_among : List Entry → Slot → Option Counts
+abbrev pub counts_among : List (CountRow ℕ) → Slot → Option (Counts ℕ)
 counts_among [] slot = None
 counts_among (e ∷ es) slot = cond (same_slot e.slot slot) (Some e.counts) (counts_among es slot)
 
@@ -39,8 +39,8 @@ prices_among (y ∷ ys) series = cond (same_series y.series series) (Some y.pric
 
 -- what is known of the entries before: the counts of a slot, and whether a series is there; and what is known with one entry more
 pub record Memory (S : Type 0) : Type 0 where
-  pub counts : S → Slot → Option Counts
-  pub list : S → Entry → S
+  pub counts : S → Slot → Option (Counts ℕ)
+  pub list : S → CountRow ℕ → S
   pub has : S → Series → Bool
   pub put : S → Head → List ℤ → S
 
@@ -73,12 +73,12 @@ pub record Left (S : Type 0) : Type 0 where
   pub rest : List ℤ
 
 -- the entry of a slot is none where the slot is listed already
-abbrev pub unlisted : Option Counts → Option Entry → Option Entry
+abbrev pub unlisted : Option (Counts ℕ) → Option (CountRow ℕ) → Option (CountRow ℕ)
 unlisted (Some old) entry = None
 unlisted None entry = entry
 
 -- the entry of the first section at the front, unless it is cut short, unlawful or listed already
-abbrev pub entry_at : {S : Type 0} → Memory S → S → List ℤ → Option Entry
+abbrev pub entry_at : {S : Type 0} → Memory S → S → List ℤ → Option (CountRow ℕ)
 entry_at m s xs = cond (nat_le 6 (length xs)) (and_then (entry_from (take 6 xs)) (λ e. unlisted (m.counts s e.slot) (Some e))) None
 
 -- some entries of the first section, the first of them at this line
@@ -123,6 +123,11 @@ abbrev pub read_years : {S : Type 0} → Memory S → ℕ → S → ℕ → List
 read_years m zero s line xs = Ok (record { known = s; line = line; rest = xs })
 read_years m (suc n) s line xs = or_refused (year_at m s xs) line (λ y. read_years m n (m.put s y.head y.prices) (line + 1) y.rest)
 
+-- the count of a section at the front
+abbrev pub count_at : List ℤ → Result ℕ ℕ
+count_at [] = Err 0
+count_at (count ∷ xs) = cond (int_le (pos 0) count) (Ok (unsigned_abs count)) (Err 0)
+
 -- nothing follows
 abbrev pub ended : {S : Type 0} → S → List ℤ → Result S ℕ
 ended s [] = Ok s
@@ -163,7 +168,7 @@ abbrev pub records_of : List ℤ → Records
 records_of xs = or_instead no_records (records xs)
 
 -- the counts of a slot, the hours of a year, and the prices of a location in a year
-abbrev pub counts_in : Records → Slot → Option Counts
+abbrev pub counts_in : Records → Slot → Option (Counts ℕ)
 counts_in r slot = counts_among r.listed slot
 
 abbrev pub hours_in : Records → Slot → ℕ → ℕ

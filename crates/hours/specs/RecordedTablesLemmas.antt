@@ -4,17 +4,19 @@ use Rattle.std.proofs.Common.{sym, ap, ◌∙◌, subst, inl, inr, arith}
 use Rattle.std.proofs.lemmas.List.{length-set, get_or-set_same, get_or-set_other, get_or-replicate, length-replicate, take_at}
 use Rattle.std.proofs.lemmas.Bool.{cases_Bool, cond-true, cond-false}
 use Rattle.std.proofs.lemmas.Bool.Decides.{nat_tests}
+use Rattle.std.proofs.lemmas.Option.{none-some}
 use Rattle.hours.specs.declared.period.Slot.{Slot}
-use Rattle.hours.specs.declared.recorded.entry.Counts.{Counts}
-use Rattle.hours.specs.declared.recorded.entry.Entry.{Entry}
-use Rattle.hours.specs.declared.recorded.entry.Series.{Series}
+use Rattle.hours.specs.declared.counts.Counts.{Counts}
+use Rattle.hours.specs.declared.rows.CountRow.{CountRow}
+use Rattle.hours.specs.declared.series.Series.{Series}
 use Rattle.hours.specs.declared.recorded.entry.Head.{Head}
 use Rattle.hours.specs.declared.recorded.tables.Tables.{Tables}
+use Rattle.hours.specs.LawfulRows.{slot_same}
 use Rattle.hours.specs.Periods.{lawful_slot, same_slot}
 use Rattle.hours.specs.RecordedEntries.{hours_by, lawful_price, same_series, LawfulSeries}
 use Rattle.hours.specs.RecordedFormat.{Year, Records, lists, no_records, counts_among, prices_among}
 use Rattle.hours.specs.RecordedTables.{slot_number, series_number, tabled_counts, start_of, with_entry, with_series, empty_tables, Sized}
-use Rattle.hours.specs.RecordedLawful.{not_none, slot_bounds, FewHours}
+use Rattle.hours.specs.RecordedLawful.{slot_bounds, FewHours}
 
 -- where the prices of a series stand among all numbers, and how many they are
 unfoldable pub Stands : List ℤ → ℕ → ℕ → Option (List ℤ) → Type 0
@@ -30,7 +32,7 @@ pub record Same (all : List ℤ) (t : Tables) (r : Records) : Type 0 where
   pub sized : Sized t
   pub looks : (k : Slot) → lawful_slot k ≡ true → tabled_counts t k ≡ counts_among r.listed k
   pub stands : (s : Series) → LawfulSeries s → Stands all (start_of t s) (hours_by (counts_among r.listed s.slot) s.year) (prices_among r.years s)
-  pub slots : (k : Slot) (c : Counts) → counts_among r.listed k ≡ Some c → lawful_slot k ≡ true
+  pub slots : (k : Slot) (c : Counts ℕ) → counts_among r.listed k ≡ Some c → lawful_slot k ≡ true
   pub series : (s : Series) (vs : List ℤ) → prices_among r.years s ≡ Some vs → LawfulSeries s
   pub few : (k : Slot) (y : ℕ) → hours_by (counts_among r.listed k) y ≤ 9000
   pub near : (s : Series) (vs : List ℤ) → prices_among r.years s ≡ Some vs → Near vs
@@ -45,23 +47,16 @@ pub same_none : (all : List ℤ) → Same all empty_tables no_records
 unfolding Stands
 same_none all =
     record {
-      sized = (length-replicate {A = Option Counts} 338 None, length-replicate {A = ℕ} 43264 0);
+      sized = (length-replicate {A = Option (Counts ℕ)} 338 None, length-replicate {A = ℕ} 43264 0);
       looks = λ k e. get_or-replicate 338 (slot_number k) None None (slot_within k e);
       stands = λ s e. get_or-replicate 43264 (series_number s) 0 0 (series_within s e);
-      slots = λ k c p. not_none c p;
-      series = λ s vs p. not_none vs p;
+      slots = λ k c p. absurd (none-some c p);
+      series = λ s vs p. absurd (none-some vs p);
       few = λ k y. omega arith;
-      near = λ s vs p. not_none vs p;
+      near = λ s vs p. absurd (none-some vs p);
     }
 
 -- numbers of slots and of series
-
-same_slot_lem : (k j : Slot) → same_slot k j ≡ true → k ≡ j
-same_slot_lem k j e =
-    let f : k.period.first ≡ j.period.first = grind (arith, nat_tests) in
-    let n : k.period.months ≡ j.period.months = grind (arith, nat_tests) in
-    let c : k.class ≡ j.class = grind (arith, nat_tests) in
-    λ i. record { period = record { first = f i; months = n i }; class = c i }
 
 slots_apart : (k j : Slot) → lawful_slot k ≡ true → lawful_slot j ≡ true → same_slot k j ≡ false → slot_number j ≢ slot_number k
 slots_apart k j s t e h =
@@ -80,7 +75,7 @@ same_series_lem a b e =
     let k : same_slot a.slot b.slot ≡ true = grind (arith, nat_tests) in
     let l : a.location ≡ b.location = grind (arith, nat_tests) in
     let y : a.year ≡ b.year = grind (arith, nat_tests) in
-    let s : a.slot ≡ b.slot = same_slot_lem a.slot b.slot k in
+    let s : a.slot ≡ b.slot = slot_same a.slot b.slot k in
     λ i. record { location = l i; slot = s i; year = y i }
 
 series_apart : (a b : Series) → LawfulSeries a → LawfulSeries b → same_series a b ≡ false → series_number b ≢ series_number a
@@ -99,7 +94,7 @@ series_apart a b s t e h =
 
 -- an entry of the first section more
 
-few_by : (c : Counts) (y : ℕ) → FewHours c → hours_by (Some c) y ≤ 9000
+few_by : (c : Counts ℕ) (y : ℕ) → FewHours c → hours_by (Some c) y ≤ 9000
 few_by c y f = go (y == 0) (y == 1) (y == 2)
   where
     go : (a b d : Bool) → cond a c.recent (cond b c.distant (cond d c.ahead 0)) ≤ 9000
@@ -108,23 +103,23 @@ few_by c y f = go (y == 0) (y == 1) (y == 2)
     go false false true = f.2
     go false false false = omega arith
 
-few_either : (b : Bool) (c : Counts) (o : Option Counts) (y : ℕ) → FewHours c → hours_by o y ≤ 9000 → hours_by (cond b (Some c) o) y ≤ 9000
+few_either : (b : Bool) (c : Counts ℕ) (o : Option (Counts ℕ)) (y : ℕ) → FewHours c → hours_by o y ≤ 9000 → hours_by (cond b (Some c) o) y ≤ 9000
 few_either true c o y f h = few_by c y f
 few_either false c o y f h = h
 
 none_stands : (all : List ℤ) (n m s : ℕ) (o : Option (List ℤ)) → o ≡ None → Stands all s n o → Stands all s m o
 unfolding Stands
 none_stands all n m s None e h = h
-none_stands all n m s (Some vs) e h = not_none vs (sym e)
+none_stands all n m s (Some vs) e h = absurd (none-some vs (sym e))
 
-pub same_entry : (all : List ℤ) (t : Tables) (r : Records) (e : Entry) → lawful_slot e.slot ≡ true → FewHours e.counts → r.years ≡ [] → Same all t r → Same all (with_entry t e) (lists.list r e)
+pub same_entry : (all : List ℤ) (t : Tables) (r : Records) (e : CountRow ℕ) → lawful_slot e.slot ≡ true → FewHours e.counts → r.years ≡ [] → Same all t r → Same all (with_entry t e) (lists.list r e)
 same_entry all t r e lawful few none same =
     record {
       sized = (simp length-set same.sized.0, same.sized.1);
       looks = λ k m. elim (cases_Bool (same_slot e.slot k)) [
         | inl y ↦
             let long : slot_number e.slot < length t.counts = let l = same.sized.0 in let w = slot_within e.slot lawful in omega arith in
-            ap (λ (j : Slot). tabled_counts (with_entry t e) j) (sym (same_slot_lem e.slot k y)) ∙ get_or-set_same t.counts (slot_number e.slot) (Some e.counts) None long
+            ap (λ (j : Slot). tabled_counts (with_entry t e) j) (sym (slot_same e.slot k y)) ∙ get_or-set_same t.counts (slot_number e.slot) (Some e.counts) None long
             ∙ sym (cond-true (same_slot e.slot k) (Some e.counts) (counts_among r.listed k) y)
         | inr n ↦
             get_or-set_other t.counts (slot_number e.slot) (slot_number k) (Some e.counts) None (slots_apart e.slot k lawful m n) ∙ same.looks k m
@@ -132,7 +127,7 @@ same_entry all t r e lawful few none same =
       ];
       stands = λ s m. none_stands all _ _ _ (prices_among r.years s) (ap (λ (ys : List Year). prices_among ys s) none) (same.stands s m);
       slots = λ k c p. elim (cases_Bool (same_slot e.slot k)) [
-        | inl y ↦ subst (λ (k : Slot). lawful_slot k ≡ true) (same_slot_lem e.slot k y) lawful
+        | inl y ↦ subst (λ (k : Slot). lawful_slot k ≡ true) (slot_same e.slot k y) lawful
         | inr n ↦ same.slots k c (sym (cond-false (same_slot e.slot k) (Some e.counts) (counts_among r.listed k) n) ∙ p)
       ];
       series = same.series;

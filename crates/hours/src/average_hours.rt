@@ -4,15 +4,16 @@ ghost use Rattle.hours.specs.LawfulRows.{few_hours_lem, whole_year_lem, empty_ye
 ghost use Rattle.std.proofs.Common.{rules};
 
 use super::average::Average;
-use super::fault::{Fault, lacking_year, past_count, unknown_location, unlawful_question};
-use super::period::{Slot, is_lawful_slot, is_lawful_year, is_past_year};
+use super::fault::{Fault, lacking_year, past_count};
+use super::period::Slot;
 use super::rows::{count_in, mean_of};
+use super::series::Series;
 use super::source::HourSource;
 
 impl HourSource for Average {
     const LOCATIONS: u8 = 64;
 
-    ghost locations = { 64 };
+    ghost LOCATIONS = { 64 };
 
     ghost hours = { λ source slot year. rows_count source.counts.items slot year };
 
@@ -30,32 +31,24 @@ impl HourSource for Average {
 
     ghost small_prices = { λ source location slot year zs hour there. small_prices_lem source.counts.items source.means.items source.lawful location slot year zs hour there };
 
-    fn location_count() -> u8 {
-        Self::LOCATIONS
-    }
-
     fn count(&self, slot: Slot, year: u8) -> Result<u16, Fault> {
-        if !is_lawful_slot(slot) || !is_lawful_year(year) {
-            return Err(unlawful_question());
-        }
+        slot.check(year)?;
         Ok(count_in(self.counts.as_slice(), slot, year) as u16)
     }
 
-    fn mcc(&self, location: u8, slot: Slot, year: u8, hour: u16) -> Result<i32, Fault> {
-        if !is_lawful_slot(slot) || !is_past_year(year) {
-            return Err(unlawful_question());
+    fn mcc(&self, series: Series, hour: u16) -> Result<i32, Fault> {
+        series.check(Self::LOCATIONS)?;
+        let Series {
+            location,
+            slot,
+            year,
+        } = series;
+        let Some(row) = mean_of(self.means.as_slice(), series) else {
+            return Err(lacking_year(location, year));
+        };
+        if u32::from(hour) >= count_in(self.counts.as_slice(), slot, year) {
+            return Err(past_count(location, year));
         }
-        if location >= Self::LOCATIONS {
-            return Err(unknown_location(location));
-        }
-        match mean_of(self.means.as_slice(), location, slot, year) {
-            None => Err(lacking_year(location, year)),
-            Some(row) => {
-                if u32::from(hour) >= count_in(self.counts.as_slice(), slot, year) {
-                    return Err(past_count(location, year));
-                }
-                Ok(row.mcc as i32)
-            }
-        }
+        Ok(row.mcc as i32)
     }
 }

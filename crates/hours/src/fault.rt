@@ -1,5 +1,5 @@
 //! Why a question has no answer.
-ghost use Rattle.hours.specs.Faults.{layer_number, cause_number, unlawful_question, unknown_location, lacking_year, past_count};
+ghost use Rattle.hours.specs.Faults.{layer_number, cause_number, cause_location, cause_year, unlawful_question, unknown_location, lacking_year, past_count};
 ghost use Rattle.std.specs.Prelude.{◌≡◌};
 
 /// The part that found the fault.
@@ -9,6 +9,7 @@ pub enum Layer {
     Book,
 }
 
+/// What went wrong, and where.
 #[derive(Clone, Copy, PartialEq, Eq, Debug)]
 pub enum Cause {
     /// a period, class or year, or a whole key, that there is none of
@@ -16,54 +17,82 @@ pub enum Cause {
     /// a key that a posted book does not list
     NotPosted,
     /// a location that the source does not know
-    UnknownLocation,
+    UnknownLocation { location: u8 },
     /// a location with no prices in that year
-    LackingYear,
+    LackingYear { location: u8, year: u8 },
     /// a year, or what lies ahead, without hours
-    NoHours,
+    NoHours { year: u8 },
     /// an hour past the last one of its year
-    PastCount,
+    PastCount { location: u8, year: u8 },
 }
 
-/// What went wrong, and where: the location and the year are 0 where the cause has none.
 #[derive(Clone, Copy, PartialEq, Eq, Debug)]
 pub struct Fault {
     pub layer: Layer,
     pub cause: Cause,
-    pub location: u8,
-    pub year: u8,
 }
 
-pub fn layer_number(layer: Layer) -> u8
-    ensures { result ≡ layer_number layer }
-{
-    match layer {
-        Layer::Hours => 1,
-        Layer::Book => 2,
+/// The number by which the part goes.
+impl From<Layer> for u8 {
+    ghost from_gives = { λ layer n. n ≡ layer_number layer };
+
+    fn from(layer: Layer) -> u8 {
+        match layer {
+            Layer::Hours => 1,
+            Layer::Book => 2,
+        }
     }
 }
 
-pub fn cause_number(cause: Cause) -> u8
-    ensures { result ≡ cause_number cause }
-{
-    match cause {
-        Cause::Unlawful => 1,
-        Cause::NotPosted => 2,
-        Cause::UnknownLocation => 3,
-        Cause::LackingYear => 4,
-        Cause::NoHours => 5,
-        Cause::PastCount => 6,
+/// The number by which the cause goes.
+impl From<Cause> for u8 {
+    ghost from_gives = { λ cause n. n ≡ cause_number cause };
+
+    fn from(cause: Cause) -> u8 {
+        match cause {
+            Cause::Unlawful => 1,
+            Cause::NotPosted => 2,
+            Cause::UnknownLocation { .. } => 3,
+            Cause::LackingYear { .. } => 4,
+            Cause::NoHours { .. } => 5,
+            Cause::PastCount { .. } => 6,
+        }
     }
 }
 
+impl Cause {
+    /// The location, and 0 where the cause has none: so the rules print it.
+    pub fn location(&self) -> u8
+        ensures { result ≡ cause_location self.now }
+    {
+        match self {
+            Cause::UnknownLocation { location }
+            | Cause::LackingYear { location, .. }
+            | Cause::PastCount { location, .. } => *location,
+            Cause::Unlawful | Cause::NotPosted | Cause::NoHours { .. } => 0,
+        }
+    }
+
+    /// The year, and 0 where the cause has none: so the rules print it.
+    pub fn year(&self) -> u8
+        ensures { result ≡ cause_year self.now }
+    {
+        match self {
+            Cause::LackingYear { year, .. }
+            | Cause::NoHours { year }
+            | Cause::PastCount { year, .. } => *year,
+            Cause::Unlawful | Cause::NotPosted | Cause::UnknownLocation { .. } => 0,
+        }
+    }
+}
+
+// A constructor for each fault that a source finds: each is public, and promises one fault of the rules.
 pub fn unlawful_question() -> Fault
     ensures { result ≡ unlawful_question }
 {
     Fault {
         layer: Layer::Hours,
         cause: Cause::Unlawful,
-        location: 0,
-        year: 0,
     }
 }
 
@@ -72,9 +101,7 @@ pub fn unknown_location(location: u8) -> Fault
 {
     Fault {
         layer: Layer::Hours,
-        cause: Cause::UnknownLocation,
-        location,
-        year: 0,
+        cause: Cause::UnknownLocation { location },
     }
 }
 
@@ -83,9 +110,7 @@ pub fn lacking_year(location: u8, year: u8) -> Fault
 {
     Fault {
         layer: Layer::Hours,
-        cause: Cause::LackingYear,
-        location,
-        year,
+        cause: Cause::LackingYear { location, year },
     }
 }
 
@@ -94,8 +119,6 @@ pub fn past_count(location: u8, year: u8) -> Fault
 {
     Fault {
         layer: Layer::Hours,
-        cause: Cause::PastCount,
-        location,
-        year,
+        cause: Cause::PastCount { location, year },
     }
 }

@@ -1,6 +1,9 @@
 //! Periods of months, classes of hours, and the years that a source answers for.
-ghost use Rattle.hours.specs.Periods.{lawful_period, lawful_class, lawful_slot, lawful_year, past_year, same_slot};
-ghost use Rattle.std.specs.Prelude.{◌≡◌};
+ghost use Rattle.hours.specs.Periods.{lawful_period, lawful_class, lawful_slot, lawful_year, past_year};
+ghost use Rattle.hours.specs.Questions.{countable};
+ghost use Rattle.std.specs.Prelude.{◌≡◌, true, IfOk};
+
+use super::fault::{Fault, unlawful_question};
 
 /// A run of whole months of one year: the first month, 1 to 12, and how many there are.
 #[derive(Clone, Copy, PartialEq, Eq, Debug)]
@@ -16,7 +19,7 @@ pub struct Slot {
     pub class: u8,
 }
 
-/// The classes.
+/// The classes. Numbers and no enum, as the years are: the rules have an answer for every number that is asked for.
 pub const ON_PEAK: u8 = 0;
 
 pub const OFF_PEAK: u8 = 1;
@@ -33,7 +36,7 @@ pub fn is_lawful_period(period: Period) -> bool
     ensures { result ≡ lawful_period period }
 {
     let n = period.months;
-    (n == 1 || n == 2 || n == 3 || n == 4 || n == 6 || n == 12)
+    matches!(n, 1 | 2 | 3 | 4 | 6 | 12)
         && 1 <= period.first
         && u32::from(period.first) + u32::from(n) <= 13
 }
@@ -64,8 +67,15 @@ pub fn is_past_year(year: u8) -> bool
     year <= DISTANT
 }
 
-pub fn same_slot(a: Slot, b: Slot) -> bool
-    ensures { result ≡ same_slot a b }
-{
-    a.period.first == b.period.first && a.period.months == b.period.months && a.class == b.class
+impl Slot {
+    /// Whether hours of this slot can be counted in a year.
+    pub fn check(self, year: u8) -> Result<(), Fault>
+        ensures answer { result ≡ countable self year }
+        ensures lawful { IfOk result (λ _. (lawful_slot self ≡ true) × (lawful_year year ≡ true)) }
+    {
+        if !is_lawful_slot(self) || !is_lawful_year(year) {
+            return Err(unlawful_question());
+        }
+        Ok(())
+    }
 }

@@ -4,11 +4,10 @@
 mod check;
 mod entry;
 mod made;
-mod reading;
+mod reader;
 mod source;
 mod span;
 mod tables;
 
 pub use check::check_recorded;
-pub use entry::Counts;
 pub use made::Recorded;

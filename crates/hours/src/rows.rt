@@ -1,147 +1,98 @@
 //! The rows that average hours are made of, which of them are lawful, and what they say.
-ghost use Rattle.std.specs.Prelude.{◌≡◌, ◌≤◌, [], length, MatchOption};
-ghost use Rattle.hours.specs.Bounds.{within};
-ghost use Rattle.hours.specs.Means.{hours_in, row_of, rows_count, is_mean_of, mean_of, lawful_count, lawful_mean, count_at_fault, mean_at_fault, first_at_fault, rows_refusal};
+ghost use Rattle.std.specs.Prelude.{◌≡◌};
+ghost use Rattle.hours.specs.Means.{row_of, rows_count, mean_of, lawful_count, lawful_mean, count_at_fault, mean_at_fault, rows_refusal};
+ghost use Rattle.hours.specs.Refusals.{as_refusal};
 
-use super::period::{AHEAD, DISTANT, RECENT, Slot, is_lawful_slot, is_past_year, same_slot};
+use super::bounds::is_within;
+use super::counts::Counts;
+use super::listing::first_at_fault;
+use super::period::{Slot, is_lawful_slot};
+use super::series::Series;
+use super::source::MOST_PRICE;
+use super::unlawful::Unlawful;
 
-/// How many hours a slot has in the recent year, in the distant year and ahead.
+/// How many hours a slot has.
 #[derive(Clone, Copy, PartialEq, Eq, Debug)]
-pub struct CountRow {
+pub struct CountRow<N> {
     pub slot: Slot,
-    pub recent: u32,
-    pub distant: u32,
-    pub ahead: u32,
+    pub counts: Counts<N>,
 }
 
 /// The mean price of a location over a past year of a slot.
 #[derive(Clone, Copy, PartialEq, Eq, Debug)]
 pub struct MeanRow {
-    pub location: u8,
-    pub slot: Slot,
-    pub year: u8,
+    pub series: Series,
     pub mcc: i64,
 }
 
-fn hours_in(row: CountRow, year: u8) -> u32
-    ensures { result ≡ hours_in row year }
-{
-    match year {
-        RECENT => row.recent,
-        DISTANT => row.distant,
-        AHEAD => row.ahead,
-        _ => 0,
-    }
-}
-
-fn row_of(rows: &[CountRow], slot: Slot) -> Option<CountRow>
+// Here, in `mean_of` and in posted rows: one line each, and a trait for what a row is found by would be longer.
+fn row_of(rows: &[CountRow<u32>], slot: Slot) -> Option<CountRow<u32>>
     ensures { result ≡ row_of rows.now slot }
 {
-    for row in rows {
-        if same_slot(row.slot, slot) {
-            return Some(*row);
-        }
-    }
-    None
+    rows.iter().copied().find(|row| row.slot == slot)
 }
 
-pub(crate) fn count_in(rows: &[CountRow], slot: Slot, year: u8) -> u32
+// Beside `hours_by`, which does the same in 16 bits: one function for both would need the zero of its type.
+pub(crate) fn count_in(rows: &[CountRow<u32>], slot: Slot, year: u8) -> u32
     ensures { result ≡ rows_count rows.now slot year }
 {
-    match row_of(rows, slot) {
-        Some(row) => hours_in(row, year),
-        None => 0,
-    }
+    row_of(rows, slot)
+        .and_then(|row| row.counts.of(year))
+        .unwrap_or(0)
 }
 
-fn is_mean_of(row: MeanRow, location: u8, slot: Slot, year: u8) -> bool
-    ensures { result ≡ is_mean_of row location slot year }
+pub(crate) fn mean_of(rows: &[MeanRow], series: Series) -> Option<MeanRow>
+    ensures { result ≡ mean_of rows.now series.location series.slot series.year }
 {
-    row.location == location && same_slot(row.slot, slot) && row.year == year
+    rows.iter().copied().find(|row| row.series == series)
 }
 
-pub(crate) fn mean_of(rows: &[MeanRow], location: u8, slot: Slot, year: u8) -> Option<MeanRow>
-    ensures { result ≡ mean_of rows.now location slot year }
-{
-    for row in rows {
-        if is_mean_of(*row, location, slot, year) {
-            return Some(*row);
-        }
-    }
-    None
-}
-
-fn is_lawful_count(row: CountRow) -> bool
+fn is_lawful_count(row: CountRow<u32>) -> bool
     ensures { result ≡ lawful_count row }
 {
-    is_lawful_slot(row.slot) && row.recent <= 9000 && row.distant <= 9000 && row.ahead <= 9000
+    let counts = row.counts;
+    is_lawful_slot(row.slot)
+        && counts.recent <= 9000
+        && counts.distant <= 9000
+        && counts.ahead <= 9000
 }
 
-fn is_small_mcc(mcc: i64) -> bool
-    ensures { result ≡ within 200000 mcc }
-{
-    -200_000 <= mcc && mcc <= 200_000
-}
-
-fn is_lawful_mean(counts: &[CountRow], row: MeanRow) -> bool
+fn is_lawful_mean(counts: &[CountRow<u32>], row: MeanRow) -> bool
     ensures { result ≡ lawful_mean counts.now row }
 {
-    row.location <= 63
-        && is_lawful_slot(row.slot)
-        && is_past_year(row.year)
-        && is_small_mcc(row.mcc)
-        && 0 < count_in(counts, row.slot, row.year)
+    let series = row.series;
+    series.is_lawful()
+        && is_within(MOST_PRICE, row.mcc)
+        && 0 < count_in(counts, series.slot, series.year)
 }
 
-fn is_count_at_fault(before: &[CountRow], row: CountRow) -> bool
+fn is_count_at_fault(before: &[CountRow<u32>], row: CountRow<u32>) -> bool
     ensures { result ≡ count_at_fault before.now row }
 {
     !is_lawful_count(row) || row_of(before, row.slot).is_some()
 }
 
-fn is_mean_at_fault(counts: &[CountRow], before: &[MeanRow], row: MeanRow) -> bool
+fn is_mean_at_fault(counts: &[CountRow<u32>], before: &[MeanRow], row: MeanRow) -> bool
     ensures { result ≡ mean_at_fault counts.now before.now row }
 {
-    !is_lawful_mean(counts, row) || mean_of(before, row.location, row.slot, row.year).is_some()
+    !is_lawful_mean(counts, row) || mean_of(before, row.series).is_some()
 }
 
-fn first_count_at_fault(rows: &[CountRow]) -> Option<u32>
-    requires { length rows.now ≤ 12 }
-    ensures { result ≡ first_at_fault count_at_fault [] rows.now }
-{
-    for i in 0..rows.len() {
-        if is_count_at_fault(&rows[0..i], rows[i]) {
-            return Some(i as u32 + 1);
-        }
-    }
-    None
-}
-
-fn first_mean_at_fault(counts: &[CountRow], rows: &[MeanRow]) -> Option<u32>
-    requires { length rows.now ≤ 48 }
-    ensures value { result ≡ first_at_fault (mean_at_fault counts.now) [] rows.now }
-    ensures few { MatchOption result Unit (λ place. place ≤ 48) }
-{
-    for i in 0..rows.len() {
-        if is_mean_at_fault(counts, &rows[0..i], rows[i]) {
-            return Some(i as u32 + 1);
-        }
-    }
-    None
-}
-
-// The line at which these rows are refused, if they are.
-pub(crate) fn rows_refusal(counts: &[CountRow], means: &[MeanRow]) -> Option<u32>
-    ensures { result ≡ rows_refusal counts.now means.now }
+/// Refuses rows that make no source: as a whole if they are too many, else at the first row at fault, the rows of counts numbered first.
+pub(crate) fn check_rows(counts: &[CountRow<u32>], means: &[MeanRow]) -> Result<(), Unlawful>
+    ensures { result ≡ as_refusal (rows_refusal counts.now means.now) }
 {
     if counts.len() > 12 || means.len() > 48 {
-        return Some(0);
+        return Err(Unlawful { line: 0 });
     }
-    if let Some(line) = first_count_at_fault(counts) {
-        return Some(line);
+    if let Some(place) = first_at_fault(counts, is_count_at_fault) {
+        return Err(Unlawful { line: place as u32 });
     }
-    match first_mean_at_fault(counts, means) {
-        None => None,
-        Some(place) => Some(counts.len() as u32 + place),
+    let at_fault = first_at_fault(means, |before, row| is_mean_at_fault(counts, before, row));
+    match at_fault {
+        Some(place) => Err(Unlawful {
+            line: (counts.len() + place) as u32,
+        }),
+        None => Ok(()),
     }
 }

@@ -6,59 +6,53 @@ ghost use Rattle.hours.specs.declared.period.Slot.{Slot};
 
 use super::fault::Fault;
 use super::period::Slot;
+use super::series::Series;
 
 /// The most hours that a year of a slot can have: room for a whole year of one class and more.
 pub const MOST_HOURS: usize = 9000;
+
+/// The most that a price can be in cents, either way.
+pub const MOST_PRICE: u64 = 200_000;
 
 pub trait HourSource {
     /// How many locations the source knows, from 0 up.
     const LOCATIONS: u8;
 
-    /// The meaning: how many locations are known; the hours of a slot in a year; the prices of a location, slot and year, or none.
-    ghost locations: { ℕ };
+    ghost LOCATIONS: { ℕ };
 
+    /// The meaning: the hours of a slot in a year; the prices of a location, slot and year, or none.
     ghost hours: { Self → Slot → ℕ → ℕ };
 
     ghost prices: { Self → ℕ → Slot → ℕ → Option (List ℤ) };
 
-    /// `LOCATIONS`, where `Self` is only known by its interface.
-    fn location_count() -> u8
-        ensures { result ≡ locations };
-
-    /// How many hours a slot has in a year: recent, distant or ahead.
+    /// How many hours a slot has in a year: recent, distant or ahead. Two parameters: tables are kept by slot alone.
     fn count(&self, slot: Slot, year: u8) -> Result<u16, Fault>
         ensures { result ≡ counted (hours self.now) slot year };
 
-    /// The price at a location in one hour of a past year.
-    fn mcc(&self, location: u8, slot: Slot, year: u8, hour: u16) -> Result<i32, Fault>
-        ensures { result ≡ priced locations (prices self.now) location slot year hour };
+    /// The price in one hour of a series.
+    fn mcc(&self, series: Series, hour: u16) -> Result<i32, Fault>
+        ensures { result ≡ priced LOCATIONS (prices self.now) series.location series.slot series.year hour };
 
-    /// All prices at a location in a past year, written to the front of the buffer; how many they are. A fault leaves the buffer as it was.
-    fn fill(
-        &self,
-        location: u8,
-        slot: Slot,
-        year: u8,
-        buffer: &mut [i32; MOST_HOURS],
-    ) -> Result<u16, Fault>
-        ensures answer { result ≡ how_many (year_of locations (prices self.now) location slot year) }
-        ensures after { buffer.new ≡ written (year_of locations (prices self.now) location slot year) buffer.old }
+    /// All prices of a series, written to the front of the buffer, which is an array so that no answer wants memory; how many they are. A fault leaves the buffer as it was.
+    fn fill(&self, series: Series, buffer: &mut [i32; MOST_HOURS]) -> Result<u16, Fault>
+        ensures answer { result ≡ how_many (year_of LOCATIONS (prices self.now) series.location series.slot series.year) }
+        ensures after { buffer.new ≡ written (year_of LOCATIONS (prices self.now) series.location series.slot series.year) buffer.old }
     {
-        let _first = self.mcc(location, slot, year, 0)?;
-        let n = self.count(slot, year)?;
+        self.mcc(series, 0)?;
+        let n = self.count(series.slot, series.year)?;
+        // not a loop over the buffer: the hour is what is asked for, and so also a place
         for hour in 0..n {
-            match self.mcc(location, slot, year, hour) {
-                Ok(price) => buffer[hour as usize] = price,
-                Err(_) => {}
+            if let Ok(price) = self.mcc(series, hour) {
+                buffer[usize::from(hour)] = price;
             }
         }
         Ok(n)
     }
 
     /// At least one location is known, and at most 64.
-    ghost some_location: { 1 ≤ locations };
+    ghost some_location: { 1 ≤ LOCATIONS };
 
-    ghost few_locations: { locations ≤ 64 };
+    ghost few_locations: { LOCATIONS ≤ 64 };
 
     /// No year has more than 9,000 hours.
     ghost few_hours: { (source : Self) (slot : Slot) (year : ℕ) → hours source slot year ≤ 9000 };

@@ -3,7 +3,7 @@ ghost use Rattle.hours.specs.Refusals.{unlawful_number};
 ghost use Rattle.std.specs.Prelude.{◌≡◌};
 
 /// Numbers, rows or limits are unlawful. The line is the first entry at fault, counted from 1,
-/// and 0 where no entry is to blame but the whole.
+/// and 0 where no entry is to blame but the whole: the rules give every refusal a line.
 #[derive(Clone, Copy, PartialEq, Eq, Debug)]
 pub struct Unlawful {
     pub line: u32,

@@ -3,8 +3,9 @@
 //! Month 1 on-peak has 2 recent hours, 1 distant hour and 3 hours ahead. Location 5 has the price 5 in its recent hours,
 //! location 6 has -6, and no location has the distant year.
 use hours::{
-    AHEAD, Average, CountRow, DISTANT, Fault, HourSource, MeanRow, OFF_PEAK, ON_PEAK, Period,
-    Proxy, RECENT, Recorded, Slot, lacking_year, past_count, unknown_location, unlawful_question,
+    AHEAD, Average, CountRow, Counts, DISTANT, Fault, HourSource, MeanRow, OFF_PEAK, ON_PEAK,
+    Period, Proxy, RECENT, Recorded, Series, Slot, lacking_year, past_count, unknown_location,
+    unlawful_question,
 };
 use std::alloc::{AllocError, Global};
 use std::process::Abort;
@@ -52,87 +53,75 @@ const NO_CLASS: Slot = Slot {
 
 const NO_YEAR: u8 = 3;
 
-/// What a question is answered with, the location and the year being those that were asked for.
+/// Why a question has no answer, the location and the year being those that were asked for.
 #[derive(Clone, Copy)]
-enum Expected {
-    Price(i32),
+enum Why {
     Unlawful,
     Unknown,
     Lacking,
     Past,
 }
 
+type Answer = Result<i32, Why>;
+
+/// In columns, so that a question is one line; the last two are for a bare source and for one under the proxy.
 /// A question for a price: location, slot, year and hour, and the answers of a bare source and of one under the proxy.
-const PRICES: [(u8, Slot, u8, u16, Expected, Expected); 16] = [
-    (5, LISTED, RECENT, 0, Expected::Price(5), Expected::Price(5)),
-    (
-        6,
-        LISTED,
-        RECENT,
-        1,
-        Expected::Price(-6),
-        Expected::Price(-6),
-    ),
+const PRICES: [(u8, Slot, u8, u16, Answer, Answer); 16] = [
+    (5, LISTED, RECENT, 0, Ok(5), Ok(5)),
+    (6, LISTED, RECENT, 1, Ok(-6), Ok(-6)),
     // a location that lacks the year gets the mean of 5 and -6, rounded down
-    (7, LISTED, RECENT, 0, Expected::Lacking, Expected::Price(-1)),
-    (
-        63,
-        LISTED,
-        RECENT,
-        1,
-        Expected::Lacking,
-        Expected::Price(-1),
-    ),
+    (7, LISTED, RECENT, 0, Err(Why::Lacking), Ok(-1)),
+    (63, LISTED, RECENT, 1, Err(Why::Lacking), Ok(-1)),
     // an hour past the count
-    (5, LISTED, RECENT, 2, Expected::Past, Expected::Past),
-    (7, LISTED, RECENT, 2, Expected::Lacking, Expected::Past),
+    (5, LISTED, RECENT, 2, Err(Why::Past), Err(Why::Past)),
+    (7, LISTED, RECENT, 2, Err(Why::Lacking), Err(Why::Past)),
     // a year that no location has, and one without hours
-    (5, LISTED, DISTANT, 0, Expected::Lacking, Expected::Lacking),
-    (5, LISTED, DISTANT, 9, Expected::Lacking, Expected::Lacking),
-    (5, UNLISTED, RECENT, 0, Expected::Lacking, Expected::Lacking),
+    (5, LISTED, DISTANT, 0, Err(Why::Lacking), Err(Why::Lacking)),
+    (5, LISTED, DISTANT, 9, Err(Why::Lacking), Err(Why::Lacking)),
+    (5, UNLISTED, RECENT, 0, Err(Why::Lacking), Err(Why::Lacking)),
     // a location that is not known
-    (64, LISTED, DISTANT, 9, Expected::Unknown, Expected::Unknown),
+    (64, LISTED, DISTANT, 9, Err(Why::Unknown), Err(Why::Unknown)),
     (
         255,
         UNLISTED,
         RECENT,
         0,
-        Expected::Unknown,
-        Expected::Unknown,
+        Err(Why::Unknown),
+        Err(Why::Unknown),
     ),
     // a question that there is none of
-    (64, LISTED, AHEAD, 9, Expected::Unlawful, Expected::Unlawful),
+    (64, LISTED, AHEAD, 9, Err(Why::Unlawful), Err(Why::Unlawful)),
     (
         64,
         LISTED,
         NO_YEAR,
         0,
-        Expected::Unlawful,
-        Expected::Unlawful,
+        Err(Why::Unlawful),
+        Err(Why::Unlawful),
     ),
     (
         5,
         FIVE_MONTHS,
         RECENT,
         0,
-        Expected::Unlawful,
-        Expected::Unlawful,
+        Err(Why::Unlawful),
+        Err(Why::Unlawful),
     ),
     (
         5,
         PAST_DECEMBER,
         RECENT,
         0,
-        Expected::Unlawful,
-        Expected::Unlawful,
+        Err(Why::Unlawful),
+        Err(Why::Unlawful),
     ),
     (
         5,
         NO_CLASS,
         RECENT,
         0,
-        Expected::Unlawful,
-        Expected::Unlawful,
+        Err(Why::Unlawful),
+        Err(Why::Unlawful),
     ),
 ];
 
@@ -150,56 +139,55 @@ const COUNTS: [(Slot, u8, Option<u16>); 10] = [
     (NO_CLASS, DISTANT, None),
 ];
 
-fn answer(expected: Expected, location: u8, year: u8) -> Result<i32, Fault> {
-    match expected {
-        Expected::Price(price) => Ok(price),
-        Expected::Unlawful => Err(unlawful_question()),
-        Expected::Unknown => Err(unknown_location(location)),
-        Expected::Lacking => Err(lacking_year(location, year)),
-        Expected::Past => Err(past_count(location, year)),
-    }
+fn answer(expected: Answer, series: Series) -> Result<i32, Fault> {
+    expected.map_err(|why| match why {
+        Why::Unlawful => unlawful_question(),
+        Why::Unknown => unknown_location(series.location),
+        Why::Lacking => lacking_year(series.location, series.year),
+        Why::Past => past_count(series.location, series.year),
+    })
 }
 
 /// Puts all questions to a source, which is under the proxy or not.
 fn answers_all<S: HourSource>(rt: &impl Abort, source: &S, under_proxy: bool) {
     for (location, slot, year, hour, bare, proxied) in PRICES {
+        let series = Series {
+            location,
+            slot,
+            year,
+        };
         let expected = if under_proxy { proxied } else { bare };
-        assert_eq!(rt;
-            source.mcc(location, slot, year, hour),
-            answer(expected, location, year)
-        );
+        assert_eq!(rt; source.mcc(series, hour), answer(expected, series));
     }
     for (slot, year, hours) in COUNTS {
         assert_eq!(rt; source.count(slot, year), hours.ok_or(unlawful_question()));
     }
-    assert!(rt; S::location_count() == 64);
+    assert!(rt; S::LOCATIONS == 64);
 }
 
-fn average(heap: Global) -> Result<Option<Average>, AllocError> {
+fn mean(location: u8, mcc: i64) -> MeanRow {
+    let series = Series {
+        location,
+        slot: LISTED,
+        year: RECENT,
+    };
+    MeanRow { series, mcc }
+}
+
+fn average(heap: Global) -> Result<Average, Fail> {
     let mut counts = Vec::new(heap);
     counts.push(CountRow {
         slot: LISTED,
-        recent: 2,
-        distant: 1,
-        ahead: 3,
+        counts: Counts {
+            recent: 2,
+            distant: 1,
+            ahead: 3,
+        },
     })?;
     let mut means = Vec::new(heap);
-    means.push(MeanRow {
-        location: 5,
-        slot: LISTED,
-        year: RECENT,
-        mcc: 5,
-    })?;
-    means.push(MeanRow {
-        location: 6,
-        slot: LISTED,
-        year: RECENT,
-        mcc: -6,
-    })?;
-    match Average::new(counts, means) {
-        Ok(average) => Ok(Some(average)),
-        Err(_) => Ok(None),
-    }
+    means.push(mean(5, 5))?;
+    means.push(mean(6, -6))?;
+    Average::new(counts, means).map_err(|_| Fail::new("the rows are lawful"))
 }
 
 fn recorded(heap: Global) -> Result<Recorded, AllocError> {
@@ -211,19 +199,14 @@ fn recorded(heap: Global) -> Result<Recorded, AllocError> {
 
 #[test]
 fn average_hours_answer(rt: HostRuntime) -> Result<(), Fail> {
-    let Some(average) = average(rt.alloc())? else {
-        return Err(Fail::new("the rows are lawful"));
-    };
-    answers_all(&rt, &average, false);
+    answers_all(&rt, &average(rt.alloc())?, false);
     Ok(())
 }
 
 #[test]
 fn average_hours_answer_under_the_proxy(rt: HostRuntime) -> Result<(), Fail> {
-    let Some(average) = average(rt.alloc())? else {
-        return Err(Fail::new("the rows are lawful"));
-    };
-    answers_all(&rt, &Proxy { below: average }, true);
+    let below = average(rt.alloc())?;
+    answers_all(&rt, &Proxy { below }, true);
     Ok(())
 }
 

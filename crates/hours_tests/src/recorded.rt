@@ -1,7 +1,7 @@
 //! Recorded hours: which numbers are refused, and what the others answer.
 use hours::{
-    AHEAD, Counts, DISTANT, HourSource, MOST_HOURS, ON_PEAK, Period, RECENT, Recorded, Slot,
-    Unlawful, check_recorded, lacking_year, past_count, unknown_location, unlawful_question,
+    AHEAD, Counts, DISTANT, HourSource, MOST_HOURS, ON_PEAK, Period, RECENT, Recorded, Series,
+    Slot, Unlawful, check_recorded, lacking_year, past_count, unknown_location, unlawful_question,
 };
 use std::alloc::{AllocError, Global};
 use std::test::Fail;
@@ -176,6 +176,15 @@ const SECOND: Slot = Slot {
     class: ON_PEAK,
 };
 
+/// The prices of a location in the first slot.
+fn first(location: u8, year: u8) -> Series {
+    Series {
+        location,
+        slot: FIRST,
+        year,
+    }
+}
+
 /// The first slot is listed; location 5 has its recent year.
 const EXAMPLE: [i32; 16] = [1, 1, 1, 0, 2, 1, 3, 1, 5, 1, 1, 0, 0, 2, 100, -100];
 
@@ -191,28 +200,28 @@ fn what_is_listed_is_answered(rt: HostRuntime) -> Result<(), Fail> {
         })
     );
     assert!(rt; recorded.counts(SECOND).is_none());
-    assert!(rt; recorded.has_year(5, FIRST, RECENT) && !recorded.has_year(5, FIRST, DISTANT));
+    assert!(rt; recorded.has_year(first(5, RECENT)) && !recorded.has_year(first(5, DISTANT)));
     assert_eq!(rt; recorded.count(FIRST, AHEAD), Ok(3));
     assert_eq!(rt; recorded.count(SECOND, RECENT), Ok(0));
-    assert_eq!(rt; recorded.mcc(5, FIRST, RECENT, 0), Ok(100));
-    assert_eq!(rt; recorded.mcc(5, FIRST, RECENT, 1), Ok(-100));
+    assert_eq!(rt; recorded.mcc(first(5, RECENT), 0), Ok(100));
+    assert_eq!(rt; recorded.mcc(first(5, RECENT), 1), Ok(-100));
     Ok(())
 }
 
 #[test]
 fn faults_come_in_their_order(rt: HostRuntime) -> Result<(), Fail> {
     let recorded = Recorded::new(EXAMPLE.to_vec(rt.alloc())?);
-    assert_eq!(rt; recorded.mcc(64, FIRST, AHEAD, 9), Err(unlawful_question()));
+    assert_eq!(rt; recorded.mcc(first(64, AHEAD), 9), Err(unlawful_question()));
     assert_eq!(rt;
-        recorded.mcc(64, FIRST, DISTANT, 9),
+        recorded.mcc(first(64, DISTANT), 9),
         Err(unknown_location(64))
     );
     assert_eq!(rt;
-        recorded.mcc(5, FIRST, DISTANT, 9),
+        recorded.mcc(first(5, DISTANT), 9),
         Err(lacking_year(5, DISTANT))
     );
     assert_eq!(rt;
-        recorded.mcc(5, FIRST, RECENT, 2),
+        recorded.mcc(first(5, RECENT), 2),
         Err(past_count(5, RECENT))
     );
     Ok(())
@@ -222,7 +231,7 @@ fn faults_come_in_their_order(rt: HostRuntime) -> Result<(), Fail> {
 fn a_year_is_copied_at_once(rt: HostRuntime) -> Result<(), Fail> {
     let recorded = Recorded::new(EXAMPLE.to_vec(rt.alloc())?);
     let mut buffer = [7; MOST_HOURS];
-    assert_eq!(rt; recorded.fill(5, FIRST, RECENT, &mut buffer), Ok(2));
+    assert_eq!(rt; recorded.fill(first(5, RECENT), &mut buffer), Ok(2));
     assert!(rt; buffer[0] == 100 && buffer[1] == -100 && buffer[2] == 7);
     Ok(())
 }
@@ -232,7 +241,7 @@ fn refused_numbers_list_nothing(rt: HostRuntime) -> Result<(), Fail> {
     let mut numbers = EXAMPLE.to_vec(rt.alloc())?;
     numbers.push(0)?;
     let recorded = Recorded::new(numbers);
-    assert!(rt; recorded.counts(FIRST).is_none() && !recorded.has_year(5, FIRST, RECENT));
+    assert!(rt; recorded.counts(FIRST).is_none() && !recorded.has_year(first(5, RECENT)));
     assert_eq!(rt; recorded.count(FIRST, AHEAD), Ok(0));
     Ok(())
 }

@@ -1,10 +1,9 @@
 //! The check of recorded hours: every number once, in its order.
 ghost use Rattle.hours.specs.RecordedFormat.{records, checked};
-ghost use Rattle.hours.specs.RecordedTables.{empty_tables, tables_read, tables_of, came_out};
+ghost use Rattle.hours.specs.RecordedTables.{tables_read, tables_of, refused_at};
 ghost use Rattle.std.specs.Prelude.{◌≡◌};
 
-use super::entry::is_lawful_price;
-use super::reading::Reading;
+use super::reader::{NO_ENTRY, Reader};
 use super::tables::Tables;
 use crate::unlawful::Unlawful;
 
@@ -12,28 +11,18 @@ use crate::unlawful::Unlawful;
 const MOST_NUMBERS: usize = 1_000_000;
 
 /// Reads all numbers into empty tables, or answers the line of the first fault.
-/// Nearly all numbers are prices that an entry owes: these are only looked at, here, and all others are steps of the reading.
-fn read_numbers(numbers: &[i32], tables: &mut Tables) -> Result<(), u32>
-    requires { tables.old ≡ empty_tables }
-    ensures { tables_read numbers.now ≡ came_out result tables.new }
+fn read_numbers(numbers: &[i32]) -> Result<Tables, Unlawful>
+    ensures { result ≡ refused_at (tables_read numbers.now) }
 {
     if MOST_NUMBERS < numbers.len() {
-        return Err(0);
+        return Err(NO_ENTRY);
     }
-    let mut reading = Reading::new();
-    let mut owed: u16 = 0;
-    for i in 0..numbers.len() {
-        let x = numbers[i];
-        if 0 < owed {
-            if !is_lawful_price(x) {
-                return Err(reading.last_line());
-            }
-            owed -= 1;
-        } else {
-            owed = reading.step(tables, x)?;
-        }
-    }
-    reading.end(owed)
+    let mut reader = Reader::new(numbers);
+    let listed = 1 + reader.count()?;
+    reader.entries(1..listed)?;
+    let end = listed + reader.count()?;
+    reader.years(listed..end)?;
+    reader.finish()
 }
 
 /// Refuses numbers that are not recorded hours. The line is the first entry at fault, both sections counted through from 1,
@@ -41,20 +30,16 @@ fn read_numbers(numbers: &[i32], tables: &mut Tables) -> Result<(), u32>
 pub fn check_recorded(numbers: &[i32]) -> Result<(), Unlawful>
     ensures { result ≡ checked (records numbers.now) }
 {
-    let mut tables = Tables::empty();
-    match read_numbers(numbers, &mut tables) {
-        Ok(_) => Ok(()),
-        Err(line) => Err(Unlawful { line }),
-    }
+    read_numbers(numbers)?;
+    Ok(())
 }
 
 /// The tables of the numbers, and empty ones where the numbers are refused.
 pub fn tables_of(numbers: &[i32]) -> Tables
     ensures { result ≡ tables_of numbers.now }
 {
-    let mut tables = Tables::empty();
-    match read_numbers(numbers, &mut tables) {
-        Ok(_) => tables,
+    match read_numbers(numbers) {
+        Ok(tables) => tables,
         Err(_) => Tables::empty(),
     }
 }

@@ -1,31 +1,12 @@
 //! The entries of recorded hours, each taken from its own numbers.
-ghost use Rattle.hours.specs.RecordedEntries.{up_to, slot_from, entry_from, head_from, hours_by, lawful_price, lawful_series};
-ghost use Rattle.std.specs.Prelude.{◌≡◌};
+ghost use Rattle.hours.specs.RecordedEntries.{up_to, slot_from, entry_from, head_from, hours_by};
+ghost use Rattle.std.specs.Prelude.{◌≡◌, ◌≤◌, IfSome};
 
-use crate::period::{AHEAD, DISTANT, Period, RECENT, Slot, is_lawful_slot, is_past_year};
-
-/// How many hours a slot has in the recent year, in the distant year and ahead.
-#[derive(Clone, Copy, PartialEq, Eq, Debug)]
-pub struct Counts {
-    pub recent: u16,
-    pub distant: u16,
-    pub ahead: u16,
-}
-
-/// An entry of the first section: the counts of a slot.
-#[derive(Clone, Copy)]
-pub struct Entry {
-    pub slot: Slot,
-    pub counts: Counts,
-}
-
-/// What an entry of the second section lists the prices of.
-#[derive(Clone, Copy)]
-pub struct Series {
-    pub location: u8,
-    pub slot: Slot,
-    pub year: u8,
-}
+use crate::counts::Counts;
+use crate::period::{Period, Slot, is_lawful_slot};
+use crate::rows::CountRow;
+use crate::series::Series;
+use crate::source::MOST_HOURS;
 
 /// An entry of the second section up to its prices, and how many of them follow.
 #[derive(Clone, Copy)]
@@ -34,30 +15,21 @@ pub struct Head {
     pub hours: u16,
 }
 
-fn up_to(most: u8, x: i32) -> Option<u8>
-    ensures { result ≡ up_to most x }
+/// The number, if it is from 0 to a bound.
+fn up_to(most: u16, x: i32) -> Option<u16>
+    ensures value { result ≡ up_to most x }
+    ensures within { IfSome result (λ n. n ≤ most) }
 {
-    if x < 0 || i32::from(most) < x {
-        return None;
-    }
-    Some(x as u8)
-}
-
-fn hour_count(x: i32) -> Option<u16>
-    ensures { result ≡ up_to 9000 x }
-{
-    if x < 0 || 9000 < x {
-        return None;
-    }
-    Some(x as u16)
+    let n = u16::try_from(x).ok()?;
+    if n <= most { Some(n) } else { None }
 }
 
 fn slot_of(first: i32, months: i32, class: i32) -> Option<Slot>
     ensures { result ≡ slot_from first months class }
 {
-    let first = up_to(12, first)?;
-    let months = up_to(12, months)?;
-    let class = up_to(1, class)?;
+    let first = up_to(12, first)? as u8;
+    let months = up_to(12, months)? as u8;
+    let class = up_to(1, class)? as u8;
     let period = Period { first, months };
     let slot = Slot { period, class };
     if is_lawful_slot(slot) {
@@ -67,63 +39,39 @@ fn slot_of(first: i32, months: i32, class: i32) -> Option<Slot>
     }
 }
 
-pub fn entry_of(read: [i32; 6]) -> Option<Entry>
-    ensures { result ≡ entry_from read }
+/// An entry of the first section: the counts of a slot.
+pub fn entry_of(numbers: &[i32; 6]) -> Option<CountRow<u16>>
+    ensures { result ≡ entry_from numbers.now }
 {
-    let slot = slot_of(read[0], read[1], read[2])?;
-    let recent = hour_count(read[3])?;
-    let distant = hour_count(read[4])?;
-    let ahead = hour_count(read[5])?;
+    let [first, months, class, recent, distant, ahead] = *numbers;
+    let slot = slot_of(first, months, class)?;
     let counts = Counts {
-        recent,
-        distant,
-        ahead,
+        recent: up_to(MOST_HOURS as u16, recent)?,
+        distant: up_to(MOST_HOURS as u16, distant)?,
+        ahead: up_to(MOST_HOURS as u16, ahead)?,
     };
-    Some(Entry { slot, counts })
+    Some(CountRow { slot, counts })
 }
 
-pub fn head_of(read: [i32; 6]) -> Option<Head>
-    ensures { result ≡ head_from read }
+pub fn head_of(numbers: &[i32; 6]) -> Option<Head>
+    ensures { result ≡ head_from numbers.now }
 {
-    let location = up_to(RECORDED_LOCATIONS - 1, read[0])?;
-    let slot = slot_of(read[1], read[2], read[3])?;
-    let year = up_to(1, read[4])?;
-    let hours = hour_count(read[5])?;
+    let [location, first, months, class, year, hours] = *numbers;
     let series = Series {
-        location,
-        slot,
-        year,
+        location: up_to(u16::from(RECORDED_LOCATIONS) - 1, location)? as u8,
+        slot: slot_of(first, months, class)?,
+        year: up_to(1, year)? as u8,
     };
+    let hours = up_to(MOST_HOURS as u16, hours)?;
     Some(Head { series, hours })
 }
 
 /// The hours of a year by the counts of its slot. A slot that is not listed has none.
-pub fn hours_by(counts: Option<Counts>, year: u8) -> u16
+pub fn hours_by(counts: Option<Counts<u16>>, year: u8) -> u16
     ensures { result ≡ hours_by counts year }
 {
-    match counts {
-        None => 0,
-        Some(counts) => match year {
-            RECENT => counts.recent,
-            DISTANT => counts.distant,
-            AHEAD => counts.ahead,
-            _ => 0,
-        },
-    }
+    counts.and_then(|counts| counts.of(year)).unwrap_or(0)
 }
 
 /// The locations that there can be prices of.
 pub const RECORDED_LOCATIONS: u8 = 64;
-
-pub fn is_lawful_series(series: Series) -> bool
-    ensures { result ≡ lawful_series series }
-{
-    is_lawful_slot(series.slot) && is_past_year(series.year) && series.location < RECORDED_LOCATIONS
-}
-
-/// A price is within 200,000 cents either way.
-pub fn is_lawful_price(x: i32) -> bool
-    ensures { result ≡ lawful_price x }
-{
-    -200_000 <= x && x <= 200_000
-}

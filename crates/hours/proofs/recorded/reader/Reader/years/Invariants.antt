@@ -1,0 +1,13 @@
+use Rattle.std.proofs.Common.{◌≡◌, ◌-◌, ◌≤◌}
+use Rattle.hours.specs.RecordedFormat.{read_years}
+use Rattle.hours.specs.RecordedTables.{in_tables}
+use Rattle.hours.proofs.recorded.reader.Reader.years.Given as goal
+
+abbrev pub invariant-loop-line : goal.invariant-loop-line
+invariant-loop-line l =
+    (goal.iterator-loop-line).can_next l.line-iterator
+    × (goal.iterator-loop-line).is_finite l.line-iterator
+    × (l.line-iterator.start ≤ l.line-iterator.end)
+    × (l.line-iterator.end ≡ l.fn.lines.end)
+    × (read_years in_tables (l.line-iterator.end - l.line-iterator.start) l.self.tables l.line-iterator.start l.self.rest.now
+    ≡ read_years in_tables (l.fn.lines.end - l.fn.lines.start) l.initial.self.tables l.fn.lines.start l.initial.self.rest.now)
