@@ -4,8 +4,9 @@ use lib.Signed.{le_z, lt_z, quot_z}
 use Rattle.std.proofs.ByRecursion.{All-append, All-weaker, folded_min_z_bounds, folded_max_z_bounds}
 use Rattle.std.proofs.lemmas.Int.{ints}
 use Rattle.std.proofs.lemmas.Bool.{cases_lt, leb-false, leb-true}
+use Rattle.std.proofs.lemmas.List.Sums.{sum_by-cons}
 use Rattle.std.specs.Int.{int_min, int_max}
-use Rattle.std.specs.List.{AllByRecursion}
+use Rattle.std.specs.List.{AllByRecursion, sum_by}
 use Rattle.books.specs.Percentiles.{at_most, Among, Percentile, Reaches, reached}
 
 -- one value
@@ -24,6 +25,11 @@ one_mono u v x h = grind (arith, ints)
 pub at_most_append : (v : ℤ) (xs ys : List ℤ) → at_most v (xs ++ ys) ≡ at_most v xs + at_most v ys
 at_most_append v [] ys = omega arith
 at_most_append v (x ∷ xs) ys = omega (arith, at_most_append v xs ys)
+
+-- a value is above or it is not
+pub above_or_not : (v : ℤ) (xs : List ℤ) → sum_by (λ x. cond (lt_z v x) 1 0) xs + at_most v xs ≡ length xs
+above_or_not v [] = refl
+above_or_not v (x ∷ xs) = let one : cond (lt_z v x) 1 0 + cond (le_z x v) 1 0 ≡ 1 = grind (arith, ints) in omega (arith, above_or_not v xs, sum_by-cons (λ y. cond (lt_z v y) 1 0) x xs)
 
 at_most_mono : (u v : ℤ) (xs : List ℤ) → u ≤ℤ v → at_most u xs ≤ at_most v xs
 at_most_mono u v [] h = omega arith

@@ -45,7 +45,17 @@ gained year sources = bind year (λ sinks. Ok (summed (differences sinks (take (
 abbrev pub summed_years : Result (List ℤ × List ℤ) Fault → Result ((ℤ × ℕ) × (ℤ × ℕ)) Fault
 summed_years r = bind r (λ years. Ok (summed years.0, summed years.1))
 
+-- a year that was read, or what was there before it
+abbrev pub there_now : Result (List ℤ) Fault → List ℤ → List ℤ
+there_now (Err e) before = before
+there_now (Ok zs) before = zs
+
 -- the losses of both years stand at the front of two buffers
 abbrev pub LostIn : Result (List ℤ × List ℤ) Fault → List ℤ → List ℤ → Type 0
 LostIn (Err e) recent distant = Unit {0}
 LostIn (Ok years) recent distant = (take (length years.0) recent ≡ losses years.0) × (take (length years.1) distant ≡ losses years.1)
+
+-- the losses of both years are left
+abbrev pub LeftIn : Result (List ℤ × List ℤ) Fault → List ℤ → List ℤ → Type 0
+LeftIn (Err e) recent distant = Unit {0}
+LeftIn (Ok years) recent distant = (recent ≡ losses years.0) × (distant ≡ losses years.1)

@@ -19,6 +19,9 @@ all_small b xs h k below = All-get_or (Within b) xs k (pos 0) below h
 pub small-append : (b : ℕ) (xs ys : List ℤ) → Small b xs → Small b ys → Small b (xs ++ ys)
 small-append b xs ys h k = all_small b (xs ++ ys) (All-append (Within b) xs ys (small_all b xs h) (small_all b ys k))
 
+pub small_wider : (b d : ℕ) (xs : List ℤ) → b ≤ d → Small b xs → Small d xs
+small_wider b d xs h k i below = let x = k i below in (omega (arith, ints), omega (arith, ints))
+
 -- one hour more
 differences-push : (xs ys : List ℤ) (x y : ℤ) → length xs ≡ length ys → differences (xs ++ x ∷ []) (ys ++ y ∷ []) ≡ differences xs ys ++ (x -ℤ y) ∷ []
 differences-push [] [] x y h = refl

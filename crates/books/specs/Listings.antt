@@ -2,11 +2,10 @@
 use Rattle.std.specs.Prelude.{◌≡◌, ℕ, ◌+◌, Bool, true, false, cond, not, ◌||◌, List, [], ◌∷◌, ◌++◌, length, ℤ, is_some, IfOk, Some, Err, nat_le, refl}
 use Rattle.std.proofs.Common.{arith}
 use Rattle.std.proofs.lemmas.Int.{ints}
-use Rattle.std.specs.List.{AllByRecursion}
+use Rattle.std.specs.List.{AllByRecursion, find}
 use Rattle.std.proofs.lemmas.Bool.{and_parts}
 use Rattle.hours.specs.Bounds.{Within, within}
-use Rattle.hours.specs.Lookups.{first}
-use Rattle.hours.specs.Means.{first_at_fault}
+use Rattle.hours.specs.Listings.{first_at_fault}
 use Rattle.books.specs.BookFaults.{unlawful_key}
 use Rattle.books.specs.Keys.{lawful_key}
 use Rattle.books.specs.Postings.{listed, price_in, posted, lawful_row, row_at_fault, posting_refusal}
@@ -31,11 +30,11 @@ all_lawful before (r ∷ rows) h = by (lawful_row r) (is_some (listed before r.k
     by false b k more = never k
 
 -- what holds of every row's price holds of the price that is found
-found : (P : ℤ → Type 0) (p : Row → Bool) (rows : List Row) → AllByRecursion (λ r. lawful_row r ≡ true) rows → ((r : Row) → lawful_row r ≡ true → P r.price) → IfOk (price_in (first p rows)) P
+found : (P : ℤ → Type 0) (p : Row → Bool) (rows : List Row) → AllByRecursion (λ r. lawful_row r ≡ true) rows → ((r : Row) → lawful_row r ≡ true → P r.price) → IfOk (price_in (find p rows)) P
 found P p [] h each = tt
 found P p (r ∷ rows) h each = by (p r) (found P p rows h.1 each)
   where
-    by : (b : Bool) → IfOk (price_in (first p rows)) P → IfOk (price_in (cond b (Some r) (first p rows))) P
+    by : (b : Bool) → IfOk (price_in (find p rows)) P → IfOk (price_in (cond b (Some r) (find p rows))) P
     by true rest = each r h.0
     by false rest = rest
 

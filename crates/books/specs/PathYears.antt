@@ -1,8 +1,8 @@
 -- The years of a path, read from a source that keeps its laws.
-use Rattle.std.specs.Prelude.{◌≡◌, ℕ, ◌*◌, ◌<◌, ◌≤◌, Bool, true, false, cond, ◌&&◌, List, ◌++◌, length, take, drop, replicate, ℤ, pos, ◌-ℤ◌, ◌*ℤ◌, neg_ℤ, IfOk, Some, None, Ok, Err, Option, Result, ◌==◌, slice_index_or, refl}
+use Rattle.std.specs.Prelude.{◌≡◌, ℕ, ◌*◌, ◌<◌, ◌≤◌, Bool, true, false, cond, ◌&&◌, List, ◌++◌, length, take, drop, ℤ, pos, ◌-ℤ◌, ◌*ℤ◌, neg_ℤ, IfOk, Some, None, Ok, Err, Option, Result, ◌==◌, slice_index_or, refl, replicate}
 use Rattle.std.proofs.Common.{sym, ap, subst, ◌∙◌, arith}
 use Rattle.std.proofs.ByRecursion.{All-append, All-drop}
-use Rattle.std.proofs.lemmas.List.{get_or-replicate, length-map, length-replicate, map-append, take_at}
+use Rattle.std.proofs.lemmas.List.{map-append, take_at, get_or-replicate, length-map, length-replicate}
 use Rattle.std.proofs.lemmas.Int.{ints}
 use Rattle.std.specs.List.{AllByRecursion}
 use Rattle.hours.specs.Years.{clash, asked, some_hours_lem}
@@ -13,19 +13,19 @@ use Rattle.hours.specs.Questions.{year_of, how_many, written}
 use Rattle.hours.specs.declared.fault.Fault.{Fault}
 use Rattle.hours.specs.declared.period.Slot.{Slot}
 use Rattle.books.specs.BookFaults.{unlawful_key, no_hours}
-use Rattle.books.specs.Differences.{differences, summed, losses, lost, gained, summed_years, LostIn, Small, YearSum}
-use Rattle.books.specs.Histories.{numerator, percent, mean_ahead, stress_of, price_from, path_price, some_hours, path_years, priced_years, history_price}
+use Rattle.books.specs.Differences.{differences, summed, losses, gained, summed_years, LostIn, LeftIn, Small, lost, YearSum}
+use Rattle.books.specs.Histories.{numerator, denominator, floored, percent, mean_ahead, stress_of, price_from, path_price, some_hours, path_years, priced_years, history_price}
 use Rattle.books.specs.Keys.{lawful_key}
 use Rattle.books.specs.Percentiles.{percentile_of}
-use Rattle.books.specs.Results.{bind}
+use Rattle.books.specs.Results.{bind, done}
 use Rattle.books.specs.declared.key.Key.{Key}
 use Rattle.books.specs.declared.key.Path.{Path}
 use Rattle.books.specs.Fractions.{ahead_within}
-use Rattle.books.specs.Hourly.{all_small, small_all, small-append, Differ, differ}
+use Rattle.books.specs.Hourly.{Differ, differ, length_differences, all_small, small_all, small-append}
 use Rattle.books.specs.Least.{stress_within}
 use Rattle.books.specs.Products.{within_times}
 
--- the answers of `fill`
+-- the answers of `fill`, and of a year that is read
 pub filled_err : (y : Result (List ℤ) Fault) (e : Fault) → Err e ≡ how_many y → y ≡ Err e
 filled_err (Err x) e q = let same : x ≡ e = cc in ap Err same
 filled_err (Ok zs) e q = clash (length zs) e (sym q)
@@ -33,6 +33,10 @@ filled_err (Ok zs) e q = clash (length zs) e (sym q)
 pub filled_ok : (y : Result (List ℤ) Fault) (n : ℕ) → Ok n ≡ how_many y → (zs : List ℤ) × (y ≡ Ok zs) × (n ≡ length zs)
 filled_ok (Err e) n q = clash n e q
 filled_ok (Ok zs) n q = (zs, refl, cc)
+
+pub done_ok : (y : Result (List ℤ) Fault) (u : Unit {0}) → Ok u ≡ done y → (zs : List ℤ) × (y ≡ Ok zs)
+done_ok (Err e) u q = absurd (clash u e q)
+done_ok (Ok zs) u q = (zs, refl)
 
 -- the answers of a year's differences
 pub gained_err : (y : Result (List ℤ) Fault) (sources : List ℤ) (e : Fault) → Err e ≡ gained y sources → y ≡ Err e
@@ -52,10 +56,6 @@ pub bound_ok : {A B : Type 0} (r : Result A Fault) (f : A → B) (y : B) → Ok 
 bound_ok (Err e) f y q = clash y e q
 bound_ok (Ok x) f y q = (x, refl, cc)
 
-made_bind : {A B : Type 0} (r : Result A Fault) (f : A → Result B Fault) (P : B → Type 0) → ((x : A) → r ≡ Ok x → IfOk (f x) P) → IfOk (bind r f) P
-made_bind (Err e) f P h = tt
-made_bind (Ok x) f P h = h x refl
-
 -- nothing is said of the buffers after a fault
 pub lost_none : (r : Result (List ℤ × List ℤ) Fault) (e : Fault) (recent distant : List ℤ) → r ≡ Err e → LostIn r recent distant
 lost_none (Err x) e recent distant h = tt
@@ -63,6 +63,10 @@ lost_none (Ok x) e recent distant h = clash x e h
 
 pub lost_both : (r : Result (List ℤ × List ℤ) Fault) (a b recent distant : List ℤ) → r ≡ Ok (a, b) → take (length a) recent ≡ losses a → take (length b) distant ≡ losses b → LostIn r recent distant
 lost_both r a b recent distant h p q = subst (λ (s : Result (List ℤ × List ℤ) Fault). LostIn s recent distant) (sym h) (p, q)
+
+made_bind : {A B : Type 0} (r : Result A Fault) (f : A → Result B Fault) (P : B → Type 0) → ((x : A) → r ≡ Ok x → IfOk (f x) P) → IfOk (bind r f) P
+made_bind (Err e) f P h = tt
+made_bind (Ok x) f P h = h x refl
 
 -- four years, one after another
 abbrev joined : Result (List ℤ) Fault → Result (List ℤ) Fault → Result (List ℤ) Fault → Result (List ℤ) Fault → Result (List ℤ × List ℤ) Fault
@@ -119,6 +123,10 @@ pub record There (n : ℕ) (zs : List ℤ) : Type 0 where
   pub few : n ≤ 9000
   pub small : Small 200000 zs
 
+-- the differences of two such years
+pub differ_there : (n : ℕ) (xs ys : List ℤ) → There n xs → There n ys → Differ (differences xs ys) × (length (differences xs ys) ≡ n)
+differ_there n xs ys a b = (differ n xs ys a.some a.few a.long b.long a.small b.small, length_differences xs ys (a.long ∙ sym b.long) ∙ a.long)
+
 pub there : (hours : Slot → ℕ → ℕ) (locations : ℕ) (prices : ℕ → Slot → ℕ → Option (List ℤ)) → Laws hours prices → (l : ℕ) (s : Slot) (y : ℕ) (zs : List ℤ) → year_of locations prices l s y ≡ Ok zs → There (hours s y) zs
 there hours locations prices laws l s y zs e =
     let a = asked locations prices l s y zs e in
@@ -155,7 +163,7 @@ path_facts hours locations prices laws p s ds h = go (year p.source 0) (year p.s
     known l y = there hours locations prices laws l s y
 
     both : (n : ℕ) (x z : List ℤ) → There n x → There n z → Differ (differences z x)
-    both n x z a b = differ n z x a.some a.few b.long a.long b.small a.small
+    both n x z a b = (differ_there n z x b a).0
 
     go : (a b c d : Result (List ℤ) Fault) → ((zs : List ℤ) → a ≡ Ok zs → There (hours s 0) zs) → ((zs : List ℤ) → b ≡ Ok zs → There (hours s 1) zs) → ((zs : List ℤ) → c ≡ Ok zs → There (hours s 0) zs) → ((zs : List ℤ) → d ≡ Ok zs → There (hours s 1) zs) → joined a b c d ≡ Ok ds → Differ ds.0 × Differ ds.1
     go (Err e) b c d ka kb kc kd q = clash ds e (sym q)
@@ -254,6 +262,44 @@ read_price_lem h r first second recent distant z read value =
     ∙ ap (λ (t : ℤ × ℕ). price_from h t second (take first.1 recent ++ take second.1 distant)) read.first_is
     ∙ ap (λ (t : ℤ × ℕ). price_from h (summed ds.0) t (take first.1 recent ++ take second.1 distant)) read.second_is
     ∙ ap (λ (xs : List ℤ). price_from h (summed ds.0) (summed ds.1) (xs ++ take second.1 distant)) read.recent_is
+    ∙ ap (λ (xs : List ℤ). price_from h (summed ds.0) (summed ds.1) (losses ds.0 ++ xs)) read.distant_is
+    ∙ ap (price_from h (summed ds.0) (summed ds.1)) (sym (map-append neg_ℤ ds.0 ds.1)))
+    ∙ sym (ap (priced_years h) read.is)
+
+-- the same of years that hold their losses and no more
+pub record YearsRead (r : Result (List ℤ × List ℤ) Fault) (first second : ℤ × ℕ) (recent distant : List ℤ) : Type 0 where
+  pub years : List ℤ × List ℤ
+  pub is : r ≡ Ok years
+  pub first_is : first ≡ summed years.0
+  pub second_is : second ≡ summed years.1
+  pub recent_is : recent ≡ losses years.0
+  pub distant_is : distant ≡ losses years.1
+
+pub years_read : (r : Result (List ℤ × List ℤ) Fault) (first second : ℤ × ℕ) (recent distant : List ℤ) →
+    ◌≡◌ {A = Result ((ℤ × ℕ) × (ℤ × ℕ)) Fault} (Ok (first, second)) (summed_years r) → LeftIn r recent distant → YearsRead r first second recent distant
+years_read r first second recent distant answer after =
+    let b = bound_ok {B = (ℤ × ℕ) × (ℤ × ℕ)} r (λ (years : List ℤ × List ℤ). (summed years.0, summed years.1)) (first, second) answer in
+    let lost = subst (λ (t : Result (List ℤ × List ℤ) Fault). LeftIn t recent distant) b.1 after in
+    record {
+      years = b.0;
+      is = b.1;
+      first_is = ap (λ (t : (ℤ × ℕ) × (ℤ × ℕ)). t.0) b.2;
+      second_is = ap (λ (t : (ℤ × ℕ) × (ℤ × ℕ)). t.1) b.2;
+      recent_is = lost.0;
+      distant_is = lost.1;
+    }
+
+-- the price of what was read, from the mean as a fraction
+pub years_price : (h : ℕ) (r : Result (List ℤ × List ℤ) Fault) (first second : ℤ × ℕ) (recent distant : List ℤ) (a : ℤ) (d : ℕ) (z : ℤ) → YearsRead r first second recent distant → a ≡ numerator first second → d ≡ denominator first second →
+    z ≡ floored (a *ℤ pos h) d -ℤ stress_of (percentile_of (percent a) (recent ++ distant)) *ℤ pos h → Ok z ≡ priced_years h r
+years_price h r first second recent distant a d z read above below value =
+    let ds = read.years in
+    ap Ok (value
+    ∙ ap (λ (t : ℤ). floored (t *ℤ pos h) d -ℤ stress_of (percentile_of (percent t) (recent ++ distant)) *ℤ pos h) above
+    ∙ ap (λ (n : ℕ). floored (numerator first second *ℤ pos h) n -ℤ stress_of (percentile_of (percent (numerator first second)) (recent ++ distant)) *ℤ pos h) below
+    ∙ ap (λ (t : ℤ × ℕ). price_from h t second (recent ++ distant)) read.first_is
+    ∙ ap (λ (t : ℤ × ℕ). price_from h (summed ds.0) t (recent ++ distant)) read.second_is
+    ∙ ap (λ (xs : List ℤ). price_from h (summed ds.0) (summed ds.1) (xs ++ distant)) read.recent_is
     ∙ ap (λ (xs : List ℤ). price_from h (summed ds.0) (summed ds.1) (losses ds.0 ++ xs)) read.distant_is
     ∙ ap (price_from h (summed ds.0) (summed ds.1)) (sym (map-append neg_ℤ ds.0 ds.1)))
     ∙ sym (ap (priced_years h) read.is)

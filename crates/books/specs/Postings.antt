@@ -1,8 +1,8 @@
 -- What posted rows say of a key, and when rows are refused.
 use Rattle.std.specs.Prelude.{ℕ, Bool, cond, not, ◌&&◌, ◌||◌, List, [], length, ℤ, is_some, Some, None, Ok, Err, Option, Result, nat_le}
+use Rattle.std.specs.List.{find}
 use Rattle.hours.specs.Bounds.{within}
-use Rattle.hours.specs.Lookups.{first}
-use Rattle.hours.specs.Means.{first_at_fault}
+use Rattle.hours.specs.Listings.{first_at_fault}
 use Rattle.hours.specs.declared.fault.Fault.{Fault}
 use Rattle.books.specs.BookFaults.{unlawful_key, not_posted}
 use Rattle.books.specs.Keys.{lawful_key, same_key}
@@ -11,7 +11,7 @@ use Rattle.books.specs.declared.row.Row.{Row}
 
 -- the row of a key, if one lists it
 abbrev pub listed : List Row → Key → Option Row
-listed rows k = first (λ r. same_key r.key k) rows
+listed rows k = find (λ r. same_key r.key k) rows
 
 -- the price of the row, if there is one
 abbrev pub price_in : Option Row → Result ℤ Fault

@@ -1,19 +1,43 @@
 //! A book that holds the prices of the book below between two limits.
 ghost use Rattle.books.specs.Bands.{lawful_limits, held, banded};
-ghost use Rattle.std.specs.Prelude.{◌≡◌, true, is_ok, MatchResult};
+ghost use Rattle.std.specs.Prelude.{◌≡◌, true, false, is_ok, MatchOption, MatchResult};
 ghost use Rattle.std.proofs.Common.{rules};
 
-use super::book::Book;
+use super::book::{Book, is_lawful_price};
 use super::key::Key;
 use hours::{Fault, Unlawful};
+
+/// Two lawful prices, the low one not above the high one.
+#[derive(Clone, Copy)]
+struct Limits {
+    low: i64,
+    high: i64,
+    ghost lawful: { lawful_limits low high ≡ true },
+}
+
+impl Limits {
+    fn new(low: i64, high: i64) -> Option<Limits>
+        ensures { MatchOption result (lawful_limits low high ≡ false) (λ l. (l.low ≡ low) × (l.high ≡ high)) }
+    {
+        if is_lawful_price(low) && is_lawful_price(high) && low <= high {
+            Some(Limits { low, high })
+        } else {
+            None
+        }
+    }
+
+    fn hold(self, price: i64) -> i64
+        ensures { result ≡ held self.low self.high price }
+    {
+        price.clamp(self.low, self.high)
+    }
+}
 
 /// A price below the low limit is raised to it, one above the high limit is lowered to that.
 #[derive(Drop)]
 pub struct Band<B> {
     below: B,
-    low: i64,
-    high: i64,
-    ghost lawful: { lawful_limits low high ≡ true },
+    limits: Limits,
 }
 
 /// Limits that make no band, and the book that it was to stand on.
@@ -23,51 +47,29 @@ pub struct RefusedBand<B> {
     pub below: B,
 }
 
-fn are_lawful_limits(low: i64, high: i64) -> bool
-    ensures { result ≡ lawful_limits low high }
-{
-    -8_000_000_000 <= low
-        && low <= 8_000_000_000
-        && -8_000_000_000 <= high
-        && high <= 8_000_000_000
-        && low <= high
-}
-
 impl<B> Band<B> {
     /// Limits that are no lawful prices, or that lie the wrong way round, are refused with line 0.
     pub fn new(below: B, low: i64, high: i64) -> Result<Band<B>, RefusedBand<B>>
-        ensures made { MatchResult result (λ b. (b.below ≡ below) × (b.low ≡ low) × (b.high ≡ high)) (λ e. (e.below ≡ below) × (e.unlawful.line ≡ 0)) }
+        ensures made { MatchResult result (λ b. (b.below ≡ below) × (b.limits.low ≡ low) × (b.limits.high ≡ high)) (λ e. (e.below ≡ below) × (e.unlawful.line ≡ 0)) }
         ensures refusal { is_ok result ≡ lawful_limits low high }
     {
-        if !are_lawful_limits(low, high) {
-            return Err(RefusedBand {
+        match Limits::new(low, high) {
+            Some(limits) => Ok(Band { below, limits }),
+            None => Err(RefusedBand {
                 unlawful: Unlawful { line: 0 },
                 below,
-            });
+            }),
         }
-        Ok(Band { below, low, high })
-    }
-}
-
-fn clamp(price: i64, low: i64, high: i64) -> i64
-    ensures { result ≡ held low high price }
-{
-    if price < low {
-        low
-    } else if high < price {
-        high
-    } else {
-        price
     }
 }
 
 impl<B: Book> Book for Band<B> {
-    ghost meaning = { λ b k. banded b.low b.high (B.Book.meaning b.below k) };
+    ghost meaning = { λ b k. banded b.limits.low b.limits.high (B.Book.meaning b.below k) };
 
     ghost bounded = { Prim.search rules };
 
     fn price(&self, key: Key) -> Result<i64, Fault> {
         let price = self.below.price(key)?;
-        Ok(clamp(price, self.low, self.high))
+        Ok(self.limits.hold(price))
     }
 }

@@ -4,14 +4,13 @@ ghost use Rattle.std.specs.Prelude.{◌≡◌};
 
 use hours::{Cause, Fault, Layer};
 
+// As in `hours`, one for each: each is public, and promises one fault of the rules.
 pub fn unlawful_key() -> Fault
     ensures { result ≡ unlawful_key }
 {
     Fault {
         layer: Layer::Book,
         cause: Cause::Unlawful,
-        location: 0,
-        year: 0,
     }
 }
 
@@ -21,8 +20,6 @@ pub fn not_posted() -> Fault
     Fault {
         layer: Layer::Book,
         cause: Cause::NotPosted,
-        location: 0,
-        year: 0,
     }
 }
 
@@ -32,8 +29,6 @@ pub fn no_hours(year: u8) -> Fault
 {
     Fault {
         layer: Layer::Book,
-        cause: Cause::NoHours,
-        location: 0,
-        year,
+        cause: Cause::NoHours { year },
     }
 }

@@ -1,8 +1,10 @@
 //! Paths between two locations, and the keys that books are asked for.
-ghost use Rattle.books.specs.Keys.{lawful_path, lawful_key, same_key};
+ghost use Rattle.books.specs.Keys.{lawful_path, lawful_key};
+ghost use Rattle.books.specs.BookFaults.{askable};
 ghost use Rattle.std.specs.Prelude.{◌≡◌};
 
-use hours::{Slot, is_lawful_slot, same_slot};
+use super::fault::unlawful_key;
+use hours::{Fault, Slot, is_lawful_slot};
 
 /// Where congestion is paid for: from the source location to the sink location.
 #[derive(Clone, Copy, PartialEq, Eq, Debug)]
@@ -31,8 +33,14 @@ pub fn is_lawful_key(key: Key) -> bool
     is_lawful_path(key.path) && is_lawful_slot(key.slot)
 }
 
-pub fn same_key(a: Key, b: Key) -> bool
-    ensures { result ≡ same_key a b }
-{
-    a.path.source == b.path.source && a.path.sink == b.path.sink && same_slot(a.slot, b.slot)
+impl Key {
+    /// What every book answers first: whether there is such a key.
+    pub fn check(self) -> Result<(), Fault>
+        ensures { result ≡ askable self }
+    {
+        if !is_lawful_key(self) {
+            return Err(unlawful_key());
+        }
+        Ok(())
+    }
 }

@@ -5,6 +5,7 @@
 
 mod band;
 mod book;
+mod count;
 mod difference;
 mod fault;
 mod history;
@@ -14,12 +15,14 @@ mod percentile;
 mod posted;
 mod row;
 mod stress;
+mod total;
+mod year;
 
 pub use band::{Band, RefusedBand};
 pub use book::Book;
 pub use fault::{no_hours, not_posted, unlawful_key};
 pub use history::History;
-pub use key::{Key, Path, is_lawful_key, is_lawful_path, same_key};
+pub use key::{Key, Path, is_lawful_key, is_lawful_path};
 pub use percentile::percentile_of;
 pub use posted::{Posted, RefusedPosting};
 pub use row::Row;

@@ -4,9 +4,9 @@ ghost use Rattle.std.specs.Prelude.{◌≡◌, false, is_some, Some, None, Match
 ghost use Rattle.books.specs.Listings.{posted_bounded};
 
 use super::book::Book;
-use super::fault::{not_posted, unlawful_key};
-use super::key::{Key, is_lawful_key};
-use super::row::{Row, row_of, rows_refusal};
+use super::fault::not_posted;
+use super::key::Key;
+use super::row::{Row, check_rows, row_of};
 use hours::{Fault, Unlawful};
 
 /// At most 128 lawful rows, no key twice.
@@ -30,12 +30,9 @@ impl Posted {
         ensures made { MatchResult result (λ b. b.rows ≡ rows) (λ e. e.rows ≡ rows) }
         ensures refusal { MatchResult result (λ b. posting_refusal rows.items ≡ None) (λ e. posting_refusal rows.items ≡ Some e.unlawful.line) }
     {
-        match rows_refusal(rows.as_slice()) {
-            Some(line) => Err(RefusedPosting {
-                unlawful: Unlawful { line },
-                rows,
-            }),
-            None => Ok(Posted { rows }),
+        match check_rows(rows.as_slice()) {
+            Ok(()) => Ok(Posted { rows }),
+            Err(unlawful) => Err(RefusedPosting { unlawful, rows }),
         }
     }
 }
@@ -46,12 +43,8 @@ impl Book for Posted {
     ghost bounded = { λ b k. posted_bounded b.rows.items k b.lawful };
 
     fn price(&self, key: Key) -> Result<i64, Fault> {
-        if !is_lawful_key(key) {
-            return Err(unlawful_key());
-        }
-        match row_of(self.rows.as_slice(), key) {
-            Some(row) => Ok(row.price),
-            None => Err(not_posted()),
-        }
+        key.check()?;
+        let row = row_of(self.rows.as_slice(), key).ok_or(not_posted())?;
+        Ok(row.price)
     }
 }

@@ -1,9 +1,11 @@
 //! The rows that a posted book is made of, which of them are lawful, and what they say.
-ghost use Rattle.std.specs.Prelude.{◌≡◌, ◌≤◌, [], length};
+ghost use Rattle.std.specs.Prelude.{◌≡◌};
 ghost use Rattle.books.specs.Postings.{listed, lawful_row, row_at_fault, posting_refusal};
-ghost use Rattle.hours.specs.Means.{first_at_fault};
+ghost use Rattle.hours.specs.Refusals.{as_refusal};
 
-use super::key::{Key, is_lawful_key, same_key};
+use super::book::is_lawful_price;
+use super::key::{Key, is_lawful_key};
+use hours::{Unlawful, first_at_fault};
 
 /// The price of a key, in cents per megawatt for the whole period.
 #[derive(Clone, Copy, PartialEq, Eq, Debug)]
@@ -12,21 +14,17 @@ pub struct Row {
     pub price: i64,
 }
 
+// As in average hours, one line: a trait for what a row is found by would be longer.
 pub(crate) fn row_of(rows: &[Row], key: Key) -> Option<Row>
     ensures { result ≡ listed rows.now key }
 {
-    for row in rows {
-        if same_key(row.key, key) {
-            return Some(*row);
-        }
-    }
-    None
+    rows.iter().copied().find(|row| row.key == key)
 }
 
 fn is_lawful_row(row: Row) -> bool
     ensures { result ≡ lawful_row row }
 {
-    is_lawful_key(row.key) && -8_000_000_000 <= row.price && row.price <= 8_000_000_000
+    is_lawful_key(row.key) && is_lawful_price(row.price)
 }
 
 fn is_at_fault(before: &[Row], row: Row) -> bool
@@ -35,24 +33,15 @@ fn is_at_fault(before: &[Row], row: Row) -> bool
     !is_lawful_row(row) || row_of(before, row.key).is_some()
 }
 
-fn first_at_fault(rows: &[Row]) -> Option<u32>
-    requires { length rows.now ≤ 128 }
-    ensures { result ≡ first_at_fault row_at_fault [] rows.now }
-{
-    for i in 0..rows.len() {
-        if is_at_fault(&rows[0..i], rows[i]) {
-            return Some(i as u32 + 1);
-        }
-    }
-    None
-}
-
-/// The line at which these rows are refused, if they are.
-pub(crate) fn rows_refusal(rows: &[Row]) -> Option<u32>
-    ensures { result ≡ posting_refusal rows.now }
+/// Refused with line 0 for too many rows, else with the place of the first row at fault.
+pub(crate) fn check_rows(rows: &[Row]) -> Result<(), Unlawful>
+    ensures { result ≡ as_refusal (posting_refusal rows.now) }
 {
     if rows.len() > 128 {
-        return Some(0);
+        return Err(Unlawful { line: 0 });
     }
-    first_at_fault(rows)
+    match first_at_fault(rows, is_at_fault) {
+        Some(place) => Err(Unlawful { line: place as u32 }),
+        None => Ok(()),
+    }
 }

@@ -4,23 +4,14 @@
 mod compared;
 mod table;
 
-use anyhow::anyhow;
-use compared::{one_hour, opposite, published};
-use hours::Fault;
+use anyhow::ensure;
+use compared::{BACK, ONE_HOUR, PUBLISHED, THERE, price};
 use table::worked_figures;
 
 /// The price, where it is the one that is known.
-fn expected(price: Result<i64, Fault>, known: i64) -> anyhow::Result<i64> {
-    match price {
-        Ok(found) => {
-            if found == known {
-                Ok(found)
-            } else {
-                Err(anyhow!("a price differs"))
-            }
-        }
-        Err(_) => Err(anyhow!("a price is missing")),
-    }
+fn expected(price: i64, known: i64) -> anyhow::Result<i64> {
+    ensure!(price == known, "a price differs");
+    Ok(price)
 }
 
 fn run(rt: &HostRuntime) -> anyhow::Result<()> {
@@ -36,9 +27,9 @@ fn run(rt: &HostRuntime) -> anyhow::Result<()> {
     )?;
     println!(rt; "  proxy over 5 and -6: {proxy}")?;
     let heap = rt.alloc();
-    let first = expected(one_hour(heap)?, -14_595)?;
-    let there = expected(published(heap)?, -10_468_250)?;
-    let back = expected(opposite(heap)?, 3_639_250)?;
+    let first = expected(price(heap, &ONE_HOUR, THERE)?, -14_595)?;
+    let there = expected(price(heap, &PUBLISHED, THERE)?, -10_468_250)?;
+    let back = expected(price(heap, &PUBLISHED, BACK)?, 3_639_250)?;
     println!(rt; "compared")?;
     println!(rt; "  the same history price from recorded hours: {first}")?;
     println!(rt;

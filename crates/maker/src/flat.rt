@@ -3,10 +3,7 @@ ghost use Rattle.hours.specs.Bounds.{Within, within};
 ghost use Rattle.std.specs.Prelude.{◌≡◌, false, replicate, Some, MatchOption};
 ghost use Rattle.std.proofs.Common.{rules};
 
-use hours::{
-    Fault, HourSource, Slot, is_lawful_slot, is_lawful_year, is_past_year, past_count,
-    unknown_location, unlawful_question,
-};
+use hours::{Fault, HourSource, Series, Slot, is_within, past_count};
 
 /// The price of every hour.
 #[derive(Drop)]
@@ -20,17 +17,18 @@ impl Flat {
     pub fn new(price: i32) -> Option<Flat>
         ensures { MatchOption result (within 200000 price ≡ false) (λ flat. flat.price ≡ price) }
     {
-        if price < -200_000 || 200_000 < price {
-            return None;
+        if is_within(200_000, i64::from(price)) {
+            Some(Flat { price })
+        } else {
+            None
         }
-        Some(Flat { price })
     }
 }
 
 impl HourSource for Flat {
     const LOCATIONS: u8 = 1;
 
-    ghost locations = { 1 };
+    ghost LOCATIONS = { 1 };
 
     ghost hours = { λ source slot year. 24 };
 
@@ -48,26 +46,15 @@ impl HourSource for Flat {
 
     ghost small_prices = { Prim.search rules };
 
-    fn location_count() -> u8 {
-        Self::LOCATIONS
-    }
-
     fn count(&self, slot: Slot, year: u8) -> Result<u16, Fault> {
-        if !is_lawful_slot(slot) || !is_lawful_year(year) {
-            return Err(unlawful_question());
-        }
+        slot.check(year)?;
         Ok(24)
     }
 
-    fn mcc(&self, location: u8, slot: Slot, year: u8, hour: u16) -> Result<i32, Fault> {
-        if !is_lawful_slot(slot) || !is_past_year(year) {
-            return Err(unlawful_question());
-        }
-        if location >= Self::LOCATIONS {
-            return Err(unknown_location(location));
-        }
+    fn mcc(&self, series: Series, hour: u16) -> Result<i32, Fault> {
+        series.check(Self::LOCATIONS)?;
         if hour >= 24 {
-            return Err(past_count(location, year));
+            return Err(past_count(series.location, series.year));
         }
         Ok(self.price)
     }

@@ -5,8 +5,8 @@ ghost use Rattle.hours.specs.Bounds.{Within, within};
 ghost use Rattle.std.specs.Prelude.{◌≡◌, false, if◌then◌else◌, Ok, Err, MatchOption};
 ghost use Rattle.std.proofs.Common.{rules};
 
-use books::{Book, Key, is_lawful_key, unlawful_key};
-use hours::Fault;
+use books::{Book, Key};
+use hours::{Fault, is_within};
 
 /// The price, in cents per megawatt for a whole period.
 #[derive(Drop)]
@@ -20,10 +20,11 @@ impl OnePrice {
     pub fn new(price: i64) -> Option<OnePrice>
         ensures { MatchOption result (within 8000000000 price ≡ false) (λ book. book.price ≡ price) }
     {
-        if price < -8_000_000_000 || 8_000_000_000 < price {
-            return None;
+        if is_within(8_000_000_000, price) {
+            Some(OnePrice { price })
+        } else {
+            None
         }
-        Some(OnePrice { price })
     }
 }
 
@@ -33,9 +34,7 @@ impl Book for OnePrice {
     ghost bounded = { Prim.search rules };
 
     fn price(&self, key: Key) -> Result<i64, Fault> {
-        if !is_lawful_key(key) {
-            return Err(unlawful_key());
-        }
+        key.check()?;
         Ok(self.price)
     }
 }

@@ -1,8 +1,0 @@
-use Rattle.std.proofs.Common.{◌≡◌, [], take, drop}
-use Rattle.hours.specs.Means.{first_at_fault}
-use Rattle.books.specs.Postings.{row_at_fault}
-use Rattle.books.proofs.row.first_at_fault.Given as goal
-
--- no row that was passed is at fault
-abbrev pub invariant-loop-i : goal.invariant-loop-i
-invariant-loop-i l = first_at_fault row_at_fault (take l.i l.rows) (drop l.i l.rows) ≡ first_at_fault row_at_fault [] l.rows
