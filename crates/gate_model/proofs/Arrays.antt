@@ -1,8 +1,9 @@
 -- A program keeps the accounts and the months' costs in arrays: what a write to one place is, in the words of the state.
-use Rattle.std.proofs.Common.{◌≡◌, ℕ, zero, suc, ◌+◌, ◌<◌, ◌≤◌, Bool, true, false, cond, ◌&&◌, eqb, ltb, leb, List, length, get_or, set, ℤ, pos, ◌+ℤ◌, sym, refl, ap, ◌∙◌, subst, ⊎_elim, arith}
+use Rattle.std.proofs.Common.{◌≡◌, ℕ, zero, suc, ◌+◌, ◌<◌, ◌≤◌, Bool, true, false, cond, ◌&&◌, leb, ltb, List, length, get_or, set, ℤ, pos, ◌+ℤ◌, sym, refl, ap, ◌∙◌, subst, ⊎_elim, arith}
 use Rattle.std.proofs.lemmas.Int.{ints}
-use Rattle.std.proofs.lemmas.Bool.{cases_eq, eq-eqb, ne_eqb, cond-true, cond-false}
+use Rattle.std.proofs.lemmas.Bool.{cases_eq, cond-true, cond-false}
 use Rattle.std.proofs.lemmas.List.{get_or-set_same, get_or-set_other, length-set}
+use Rattle.std.proofs.lemmas.Grind.{common_steps}
 use Rattle.std.proofs.lemmas.Bool.Decides.{nat_tests}
 use Rattle.gate_model.specs.State.{Account, empty_account}
 use Rattle.gate_model.specs.Effects.{changed, spread}
@@ -16,11 +17,7 @@ pub set_is_changed : (xs : List Account) (c : ℕ) (change : Account → Account
 set_is_changed xs c change l = λ i k. at k i
   where
     at : (k : ℕ) → accounts_in (set xs c (change (accounts_in xs c))) k ≡ changed (accounts_in xs) c change k
-    at k = ⊎_elim
-        (λ e. subst (λ j. accounts_in (set xs c (change (accounts_in xs c))) j ≡ changed (accounts_in xs) c change j) e
-        (get_or-set_same xs c (change (accounts_in xs c)) empty_account l ∙ sym (cond-true (eqb c c) (change (accounts_in xs c)) (accounts_in xs c) (eq-eqb c c refl))))
-        (λ n. get_or-set_other xs c k (change (accounts_in xs c)) empty_account (λ e. n (sym e)) ∙ sym (cond-false (eqb c k) (change (accounts_in xs k)) (accounts_in xs k) (ne_eqb c k n)))
-        (cases_eq c k)
+    at k = grind (arith, nat_tests, common_steps)
 
 -- the costs of months 0 to 12, place 0 unused
 abbrev pub costs_in : List ℤ → ℕ → ℤ

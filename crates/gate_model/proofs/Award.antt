@@ -1,14 +1,15 @@
 -- An award of a standing item lowers or keeps R + S of its owner, changes nothing for others, and leaves a sound state.
-use Rattle.std.proofs.Common.{◌≡◌, ℕ, ◌+◌, ◌-◌, ◌*◌, ◌≤◌, true, false, cond, eqb, List, [], ◌∷◌, ◌++◌, ℤ, pos, ◌+ℤ◌, ◌-ℤ◌, ◌*ℤ◌, neg_ℤ, ◌≤ℤ◌, sym, refl, ap, ◌∙◌, subst, ⊎_elim, arith}
+use Rattle.std.proofs.lemmas.Bool.Decides.{nat_tests}
+use Rattle.std.proofs.Common.{◌≡◌, ℕ, ◌+◌, ◌-◌, ◌*◌, ◌≤◌, true, false, cond, eqb, List, [], ◌∷◌, ◌++◌, ℤ, pos, ◌+ℤ◌, ◌-ℤ◌, ◌*ℤ◌, neg_ℤ, ◌≤ℤ◌, sym, refl, ap, ◌∙◌, subst, arith}
 use lib.Signed.{le_z}
 use Rattle.std.specs.List.{AllByRecursion}
 use Rattle.std.proofs.lemmas.Int.{ints}
-use Rattle.std.proofs.lemmas.Bool.{cond_both, and_parts, or_cases, both_ways, eq-eqb, cond-true}
+use Rattle.std.proofs.lemmas.Bool.{cond_both, eq-eqb, cond-true}
 use Rattle.gate_model.specs.Money.{max0}
 use Rattle.gate_model.proofs.Money.{max0_is}
 use Rattle.gate_model.specs.Sums.{sum_z}
 use Rattle.gate_model.proofs.Sums.{sum_z-append}
-use Rattle.gate_model.specs.Measures.{Prices, lawful_price}
+use Rattle.gate_model.specs.Measures.{Prices}
 use Rattle.gate_model.specs.Curves.{worth, top, in_block}
 use Rattle.gate_model.specs.State.{Account, Body, bid, offer, conversion, Item, State, right_at, item_at, item_numbered, no_item}
 use Rattle.gate_model.specs.Requirement.{mine, unsettled, monthly, value_left, values, charges, Within, commits_body, committed}
@@ -19,7 +20,7 @@ use Rattle.gate_model.proofs.Firsts.{all_first}
 use Rattle.gate_model.proofs.Months.{Ahead, unsettled_costed, value_ahead}
 use Rattle.gate_model.proofs.Blocks.{bid_award, offer_award, conversion_award, offer_block, offer_top}
 use Rattle.gate_model.proofs.Rights.{lessened_sum}
-use Rattle.gate_model.proofs.Sound.{BidBacked, OfferBacked, PartBacked, ConversionBacked, BodyBacked, Backed, Sound, standing_of, rights_more, rights_less, settled_sound, settled_sum, requirement_above, commits_above}
+use Rattle.gate_model.proofs.Sound.{BidBacked, OfferBacked, PartBacked, ConversionBacked, BodyBacked, Backed, Sound, standing_of, rights_more, rights_less, settled_sound, settled_sum, requirement_above, committed_above}
 use Rattle.hours.specs.declared.period.Period.{Period}
 use Rattle.books.specs.declared.key.Key.{Key}
 use Rattle.gate_model.specs.declared.point.Point.{Point}
@@ -125,12 +126,7 @@ many_more p o c d given [] h = sym (cond_both (eqb c d) (pos 0) (pos 0) (λ y. y
 many_more p o c d given (l ∷ ls) h =
     let r = many_more p o c d (given + 1) ls h.1 in
     let v = ap (mine c d) (value_ahead o (right_for (given + 1) c l.key l.megawatts l.price (pos 0)) h.0.ahead) in
-    more_mine c d (worth l.megawatts l.price) (sum_z (λ l. worth l.megawatts l.price) ls) _ _ v r
-  where
-    more_mine : (c d : ℕ) (x y u v : ℤ) → u ≡ mine c d x → v ≡ mine c d y → (u +ℤ v) ≡ mine c d (x +ℤ y)
-    more_mine c d x y u v e f =
-        (elim (eqb c d) as (λ b. u ≡ cond b x (pos 0) → v ≡ cond b y (pos 0) → (u +ℤ v) ≡ cond b (x +ℤ y) (pos 0))
-        [ true ↦ λ g h. omega (arith, ints) | false ↦ λ g h. omega (arith, ints) ]) e f
+    grind (arith, ints, nat_tests)
 
 conversion_within : (s : State) (k d : ℕ) (parts : List Part) (i : Item)
     → i ≡ item_at k s.items → ConversionBacked s.prices s.month i parts
@@ -170,10 +166,6 @@ offer_takes s k w n x points t h e b l =
     let v = offer_top points b.curve in
     let a : pos 0 ≤ℤ committed n (settled s k).items = committed_above n (settled s k).items in
     record { some = omega (arith, ints); enough = omega (arith, ints); free = omega (arith, ints) }
-  where
-    committed_above : (n : ℕ) (items : List Item) → pos 0 ≤ℤ committed n items
-    committed_above n [] = omega (arith, ints)
-    committed_above n (i ∷ is) = let a = commits_above n i.body in let r = committed_above n is in omega (arith, ints)
 
 cleared_keeps : (s : State) (k d w : ℕ) (x : ℤ) (b : Body) → b ≡ (item_at k s.items).body → stands s k ≡ true → Sound s
     → BodyBacked s.prices s.month s.rights (item_at k s.items) b
@@ -188,18 +180,23 @@ item_backed s k t h = all_first (Backed s.prices s.month s.rights) (item_numbere
 
 -- w is not zero, so that the item allows it
 pub lawful_some : (i : Item) (w : ℕ) (x : ℤ) → lawful_award i w x ≡ true → eqb w 0 ≡ false → lawful_on i.body w x ≡ true
-lawful_some i w x l z = ⊎_elim (λ e. absurd (both_ways (eqb w 0) z e)) (λ e. e) (or_cases (eqb w 0) _ (and_parts (lawful_price x) _ l).1)
+lawful_some i w x l z = grind (arith, ints, nat_tests)
+
+-- what holds once the item is done, and once w of it is cleared too, holds after the award
+pub awarded_by : (P : State → Type 0) (s : State) (k w : ℕ) (x : ℤ) → P (settled s k)
+    → (eqb w 0 ≡ false → P (cleared (settled s k) (item_at k s.items).owner (item_at k s.items).body w x)) → P (awarded s k w x)
+awarded_by P s k w x h f = cond_both (eqb w 0) (settled s k) (cleared (settled s k) (item_at k s.items).owner (item_at k s.items).body w x) P (λ _. h) f
 
 pub award_within : (s : State) (k d w : ℕ) (x : ℤ) → stands s k ≡ true → lawful_award (item_at k s.items) w x ≡ true → Sound s → Within s d → Within (awarded s k w x) d
 award_within s k d w x t l g h =
     let b = item_backed s k t g in
-    cond_both (eqb w 0) (settled s k) (cleared (settled s k) (item_at k s.items).owner (item_at k s.items).body w x) (λ n. Within n d)
-    (λ _. zero_within s k d (requirement_above s.prices s.month s.rights (item_at k s.items) (item_at k s.items).body b) h)
+    awarded_by (λ n. Within n d) s k w x
+    (zero_within s k d (requirement_above s.prices s.month s.rights (item_at k s.items) (item_at k s.items).body b) h)
     (λ z. cleared_keeps s k d w x (item_at k s.items).body refl t g b (lawful_some (item_at k s.items) w x l z) h)
 
 -- soundness
 changed_standing : (accounts : ℕ → Account) (c d : ℕ) (p : Period) (m : ℤ) (z : ℤ) → (accounts d).standing ≡ z → (changed accounts c (costed p m) d).standing ≡ z
-changed_standing accounts c d p m z h = elim (eqb c d) as (λ b. (cond b (costed p m (accounts d)) (accounts d)).standing ≡ z) [ true ↦ h | false ↦ h ]
+changed_standing accounts c d p m z h = grind (arith, ints, nat_tests)
 
 rights_priced : (p : Prices) (o given c : ℕ) (parts : List Part) → AllByRecursion (PartBacked p o) parts → AllByRecursion (RightPriced p) (rights_of given c parts)
 rights_priced p o given c [] h = tt
@@ -212,23 +209,20 @@ cleared_sound s k w x (bid key points price) e t h b l =
     let g = settled_sound s k t h in
     let c = (item_at k s.items).owner in
     let m = rights_more s.prices s.month s.rights (right_for (s.given + 1) c key w price x ∷ []) (settled s k).items (standing_of (settled s k) g) (b.priced, tt) in
-    record { sums = λ d. changed_standing (settled s k).accounts c d key.slot.period (monthly key.slot.period (pos w *ℤ max0 x)) _ (g.sums d); backed = m.backed; covered = m.covered; priced = m.priced; window = g.window }
+    grind (arith, ints, nat_tests)
 cleared_sound s k w x (offer n points) e t h b l =
     let g = settled_sound s k t h in
-    let c = (item_at k s.items).owner in
     let u = offer_takes s k w n x points t h (sym e) b l in
-    let r = right_at n s.rights in
     let m = rights_less s.prices s.month s.rights (settled s k).items n w (standing_of (settled s k) g) u.free in
-    record { sums = λ d. changed_standing (settled s k).accounts c d r.key.slot.period (monthly r.key.slot.period (sale_cost r.original w x)) _ (g.sums d); backed = m.backed; covered = m.covered; priced = m.priced; window = g.window }
+    grind (arith, ints, nat_tests)
 cleared_sound s k w x (conversion parts) e t h b l =
     let g = settled_sound s k t h in
     let c = (item_at k s.items).owner in
     let m = rights_more s.prices s.month s.rights (rights_of s.given c parts) (settled s k).items (standing_of (settled s k) g) (rights_priced s.prices s.month s.given c parts b.each) in
-    record { sums = g.sums; backed = m.backed; covered = m.covered; priced = m.priced; window = g.window }
+    grind (arith, ints, nat_tests)
 
 pub award_sound : (s : State) (k w : ℕ) (x : ℤ) → stands s k ≡ true → lawful_award (item_at k s.items) w x ≡ true → Sound s → Sound (awarded s k w x)
 award_sound s k w x t l g =
     let b = item_backed s k t g in
-    cond_both (eqb w 0) (settled s k) (cleared (settled s k) (item_at k s.items).owner (item_at k s.items).body w x) Sound
-    (λ _. settled_sound s k t g)
+    awarded_by Sound s k w x (settled_sound s k t g)
     (λ z. cleared_sound s k w x (item_at k s.items).body refl t g b (lawful_some (item_at k s.items) w x l z))

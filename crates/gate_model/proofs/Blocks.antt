@@ -1,10 +1,11 @@
 -- What an award in a block of a curve comes to, against what the curve requires.
+use Rattle.std.proofs.lemmas.Bool.Decides.{nat_tests}
 use Rattle.std.proofs.Common.{◌≡◌, ℕ, ◌*◌, ◌≤◌, Bool, true, ◌&&◌, ltb, leb, List, [], ◌∷◌, length, ℤ, pos, negsuc, ◌+ℤ◌, ◌-ℤ◌, ◌*ℤ◌, neg_ℤ, ◌≤ℤ◌, refl, ap, ⊎_elim, arith}
 use borrow.Author.Differences.{sum_is_lem, neg_is}
 use lib.Signed.{le_z}
 use Rattle.std.proofs.lemmas.Int.{ints, clamps}
-use Rattle.std.proofs.lemmas.Bool.{or_cases, and_parts, leb-true, ltb-true, false≢true}
-use Rattle.gate_model.specs.Money.{max0, floor_z}
+use Rattle.std.proofs.lemmas.Bool.{or_cases, and_parts, leb-true, false≢true}
+use Rattle.gate_model.specs.Money.{max0}
 use Rattle.gate_model.proofs.Money.{max0_is, scaled, proved}
 use Rattle.gate_model.specs.Sums.{sum_z}
 use Rattle.gate_model.specs.Measures.{lawful_megawatts}
@@ -33,11 +34,7 @@ most_reaches f v accepts w k below [] h = absurd (false≢true h)
 most_reaches f v accepts w k below (p ∷ ps) h =
     let r = most_reaches f v accepts w k p.megawatts ps in
     let a = most_above f ps in
-    ⊎_elim
-    (λ e. let e2 = and_parts (ltb below w) _ e in let e3 = and_parts (leb w p.megawatts) _ e2.1 in
-    let l = k p (leb-true _ _ e3.0) e3.1 in omega (arith, ints, clamps, max0_is))
-    (λ e. let l = r e in omega (arith, ints, clamps))
-    (or_cases (ltb below w && (leb w p.megawatts && accepts p.price)) _ h)
+    grind (arith, ints, nat_tests)
 
 -- an award on a bid adds no more than the bid requires
 pub bid_award : (r : ℤ) (points : List Point) (w : ℕ) (x : ℤ) → in_block (λ c. le_z x c) w 0 points ≡ true
@@ -71,27 +68,19 @@ halves : (parts : List Part) → ((sum_z gain parts +ℤ sum_z loss parts) ≡ s
 halves [] = (refl, omega (arith, ints), omega (arith, ints))
 halves (l ∷ ls) =
     let r = halves ls in
-    let r0 = r.0 in let r1 = r.1 in let r2 = r.2 in
     let z = worth l.megawatts l.price in
-    let e : (gain l +ℤ loss l) ≡ worth l.megawatts l.price = min0_is z in
     let b : loss l ≤ℤ pos 0 = min0_below z in
-    let g : pos 0 ≤ℤ gain l = let m = max0_is z in omega (arith, ints) in
-    halves_more (gain l) (loss l) z (sum_z gain ls) (sum_z loss ls) (sum_z (λ l. worth l.megawatts l.price) ls) e b g r0 r1 r2
-  where
-    halves_more : (a b z p n t : ℤ) → (a +ℤ b) ≡ z → b ≤ℤ pos 0 → pos 0 ≤ℤ a → (p +ℤ n) ≡ t → pos 0 ≤ℤ p → n ≤ℤ pos 0
-        → ((a +ℤ p) +ℤ (b +ℤ n) ≡ z +ℤ t) × (pos 0 ≤ℤ (a +ℤ p)) × ((b +ℤ n) ≤ℤ pos 0)
-    halves_more a b z p n t e1 e2 e3 e4 e5 e6 = (omega (arith, ints), omega (arith, ints), omega (arith, ints))
+    grind (arith, ints, nat_tests)
 
 -- a conversion that clears adds no more than it requires
 pub conversion_award : (parts : List Part) → neg_ℤ (sum_z (λ l. worth l.megawatts l.price) parts) ≤ℤ conversion_requirement parts
 conversion_award parts =
     let h = halves parts in
     let k = proved.conversion (sum_z gain parts) (sum_z loss parts) h.1 h.2 in
-    let e = ap neg_ℤ h.0 in
     omega (arith, ints)
 
 pub conversion_above : (parts : List Part) → pos 0 ≤ℤ conversion_requirement parts
-conversion_above parts = let m = max0_is (neg_ℤ (floor_z (pos 9 *ℤ sum_z gain parts) 10 +ℤ sum_z loss parts)) in omega (arith, ints)
+conversion_above parts = grind (arith, ints, nat_tests)
 
 top_rises : (follows : ℤ → ℤ → Bool) (p : Point) (ps : List Point) → ordered follows p ps ≡ true → (1 ≤ p.megawatts) × (p.megawatts ≤ top p.megawatts ps)
 top_rises follows p [] h = (leb-true _ _ (and_parts (leb 1 p.megawatts) _ (and_parts (lawful_megawatts p.megawatts) _ h).0).0, omega arith)
@@ -99,8 +88,7 @@ top_rises follows p (q ∷ ps) h =
     let h2 = and_parts (lawful_point p) _ h in
     let h3 = and_parts (ltb p.megawatts q.megawatts && follows p.price q.price) _ h2.1 in
     let r = top_rises follows q ps h3.1 in
-    let l = ltb-true _ _ (and_parts (ltb p.megawatts q.megawatts) _ h3.0).0 in
-    (leb-true _ _ (and_parts (leb 1 p.megawatts) _ (and_parts (lawful_megawatts p.megawatts) _ h2.0).0).0, omega arith)
+    grind (arith, ints, nat_tests)
 
 block_top : (follows : ℤ → ℤ → Bool) (accepts : ℤ → Bool) (w below : ℕ) (p : Point) (ps : List Point) → ordered follows p ps ≡ true → in_block accepts w below (p ∷ ps) ≡ true → w ≤ top p.megawatts ps
 block_top follows accepts w below p [] o h =
@@ -110,7 +98,7 @@ block_top follows accepts w below p (q ∷ ps) o h =
     let o2 = and_parts (lawful_point p) _ o in
     let o3 = and_parts (ltb p.megawatts q.megawatts && follows p.price q.price) _ o2.1 in
     let r = block_top follows accepts w p.megawatts q ps o3.1 in
-    ⊎_elim (λ e. let l = leb-true _ _ (and_parts (leb w p.megawatts) _ (and_parts (ltb below w) _ e).1).0 in omega arith) r (or_cases (ltb below w && (leb w p.megawatts && accepts p.price)) _ h)
+    grind (arith, ints, nat_tests)
 
 -- what an offer clears is not above its top point, and the top point is not zero
 pub offer_top : (points : List Point) → lawful_offer points ≡ true → 1 ≤ top 0 points

@@ -1,4 +1,5 @@
 -- The unsettled cost, with the most that what stands may add to it, is never over the limit of ground 11.
+use Rattle.std.proofs.lemmas.Bool.Decides.{nat_tests}
 use Rattle.std.proofs.Common.{◌≡◌, ℕ, zero, suc, ◌+◌, ◌-◌, ◌^◌, ◌<◌, true, false, cond, eqb, List, [], ◌∷◌, map, length, ℤ, pos, ◌+ℤ◌, ◌*ℤ◌, neg_ℤ, ◌≤ℤ◌, sym, refl, ap, ◌∙◌, subst, ⊎_elim, add-one, arith}
 use Rattle.std.specs.List.{AllByRecursion}
 use Rattle.std.proofs.lemmas.Int.{ints}
@@ -16,7 +17,7 @@ use Rattle.gate_model.specs.Run.{effect, step}
 use Rattle.gate_model.proofs.Months.{Ahead, unsettled_costed}
 use Rattle.gate_model.proofs.Blocks.{most_above, bid_cost, offer_cost}
 use Rattle.gate_model.proofs.Sound.{BodyBacked, Backed, Sound, settled_sum}
-use Rattle.gate_model.proofs.Award.{item_backed, lawful_some}
+use Rattle.gate_model.proofs.Award.{item_backed, lawful_some, awarded_by}
 use Rattle.gate_model.proofs.Tables.{Unmet, Passes, decided_keeps, not_passed, standing_passed}
 use Rattle.gate_model.proofs.Costs.{Costed, original_above}
 use Rattle.hours.specs.declared.period.Period.{Period}
@@ -59,12 +60,7 @@ cleared_cap o c d p y z g all rest cap a h l e k =
     kept u all rest cap q k = omega (arith, ints)
 
 settled_cap : (o c d : ℕ) (y g all rest cap : ℤ) (a : Account) → pos 0 ≤ℤ g → (rest +ℤ mine c d g) ≡ all → (unsettled o a +ℤ all) ≤ℤ cap → (unsettled o (changed (λ _. a) c (drawn y) d) +ℤ rest) ≤ℤ cap
-settled_cap o c d y g all rest cap a l e k =
-    (elim (eqb c d) as (λ b. (rest +ℤ cond b g (pos 0)) ≡ all → (unsettled o (cond b (drawn y a) a) +ℤ rest) ≤ℤ cap)
-    [ true ↦ λ q. fits (unsettled o a) g all rest cap l q k | false ↦ λ q. fits (unsettled o a) (pos 0) all rest cap (omega (arith, ints)) q k ]) e
-  where
-    fits : (u g all rest cap : ℤ) → pos 0 ≤ℤ g → (rest +ℤ g) ≡ all → (u +ℤ all) ≤ℤ cap → (u +ℤ rest) ≤ℤ cap
-    fits u g all rest cap l q k = omega (arith, ints)
+settled_cap o c d y g all rest cap a l e k = grind (arith, ints, nat_tests)
 
 cleared_capped : (s : State) (k w : ℕ) (x : ℤ) (b : Body) → stands s k ≡ true → BodyBacked s.prices s.month s.rights (item_at k s.items) b → lawful_on b w x ≡ true
     → Capped s → Capped (cleared (settled s k) (item_at k s.items).owner b w x)
@@ -86,16 +82,14 @@ award_capped : (s : State) (k w : ℕ) (x : ℤ) → stands s k ≡ true → law
 award_capped s k w x t l g h =
     let i = item_at k s.items in
     let b = item_backed s k t g in
-    cond_both (eqb w 0) (settled s k) (cleared (settled s k) i.owner i.body w x) Capped
-    (λ _ d. settled_cap s.month i.owner d (neg_ℤ i.requirement) i.greatest (may_add d s.items) (may_add d (settled s k).items) (pos (10 ^ 16)) (s.accounts d)
+    awarded_by Capped s k w x
+    (λ d. settled_cap s.month i.owner d (neg_ℤ i.requirement) i.greatest (may_add d s.items) (may_add d (settled s k).items) (pos (10 ^ 16)) (s.accounts d)
     (greatest_above s.prices s.month s.rights i i.body b) (settled_sum s k (λ j. mine j.owner d j.greatest) t) (h d))
     (λ z. cleared_capped s k w x i.body t b (lawful_some i w x l z) h)
 
 -- an account changes in anything but its costs
 account_capped : (s : State) (c : ℕ) (change : Account → Account) → ((a : Account) → (change a).costs ≡ a.costs) → Capped s → Capped (with_account s c change)
-account_capped s c change f h d =
-    elim (eqb c d) as (λ b. (unsettled s.month (cond b (change (s.accounts d)) (s.accounts d)) +ℤ may_add d s.items) ≤ℤ pos (10 ^ 16))
-    [ true ↦ subst (λ y. (over y s.month (13 - s.month) +ℤ may_add d s.items) ≤ℤ pos (10 ^ 16)) (sym (f (s.accounts d))) (h d) | false ↦ h d ]
+account_capped s c change f h d = grind (arith, ints, nat_tests)
 
 -- one more item: tested for its owner, or adding nothing
 stands_too_others : (s : State) (i : Item) (d : ℕ) → mine i.owner d i.greatest ≡ pos 0 → Capped s → (unsettled s.month ((stands_too s i).accounts d) +ℤ may_add d (stands_too s i).items) ≤ℤ pos (10 ^ 16)
@@ -130,7 +124,6 @@ turned_capped : (s : State) → Costed s → Capped s → Capped (turned s)
 turned_capped s g h d =
     let o = s.month in
     let f = (s.accounts d).costs in
-    let y = g.year in
     let k = h d in
     let a = original_above d o s.rights g.lawful in
     let c = g.original d o (omega arith) in

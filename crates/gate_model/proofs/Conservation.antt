@@ -1,8 +1,10 @@
 -- Every call changes what is held of an unfinished key by what it clears.
-use Rattle.std.proofs.Common.{◌≡◌, ℕ, ◌+◌, ◌-◌, ◌≤◌, Bool, true, false, cond, eqb, ltb, List, [], ◌∷◌, ◌++◌, map, ℤ, pos, ◌+ℤ◌, fold, filter, sym, refl, ap, ◌∙◌, arith}
+use Rattle.std.proofs.lemmas.Grind.{common_steps}
+use Rattle.std.proofs.lemmas.Bool.Decides.{nat_tests}
+use Rattle.std.proofs.Common.{◌≡◌, ℕ, ◌+◌, ◌-◌, ◌≤◌, Bool, true, false, cond, eqb, List, [], ◌∷◌, ◌++◌, map, ℤ, pos, ◌+ℤ◌, fold, filter, sym, refl, ap, arith}
 use Rattle.std.specs.List.{AllByRecursion}
 use Rattle.std.proofs.lemmas.Int.{ints}
-use Rattle.std.proofs.lemmas.Bool.{cond_both, cond-true, cond-false, and_parts, eqb-true, both_ways, ltb-true, lt-ltb}
+use Rattle.std.proofs.lemmas.Bool.{cond_both, cond-false, and_parts, ltb-true, lt-ltb}
 use Rattle.gate_model.specs.Sums.{sum_z}
 use Rattle.gate_model.proofs.Sums.{sum_z-append}
 use Rattle.gate_model.specs.Measures.{Prices, unfinished}
@@ -13,23 +15,21 @@ use Rattle.gate_model.specs.Grounds.{grounds, stands, lawful_award, lawful_on}
 use Rattle.gate_model.specs.Run.{effect, step, next}
 use Rattle.gate_model.specs.Conservation.{of_key, held, buys, converts, sells, clears, along}
 use Rattle.gate_model.proofs.Rights.{lessened_sum}
-use Rattle.gate_model.proofs.Sound.{BodyBacked, Sound}
+use Rattle.gate_model.proofs.Sound.{BodyBacked, Sound, committed_above}
 use Rattle.gate_model.proofs.Award.{offer_takes, item_backed, lawful_some}
 use Rattle.gate_model.proofs.Tables.{Unmet, decided_keeps, not_passed}
-use Rattle.gate_model.proofs.Steps.{Passed, transfer_passed, committed_above, step_sound}
+use Rattle.gate_model.proofs.Steps.{Passed, transfer_passed, step_sound}
 use Rattle.hours.specs.declared.period.Period.{Period}
 use Rattle.books.specs.declared.key.Key.{Key}
 use Rattle.gate_model.specs.declared.conversion.Part.{Part}
 use Rattle.gate_model.specs.declared.right.Right.{Right}
-use Rattle.books.specs.Keys.{same_key}
 use Rattle.gate_model.specs.declared.outcome.Outcome.{Outcome}
 
 none_of_key : (k key : Key) → of_key k key 0 ≡ pos 0
-none_of_key k key = cond_both (same_key key k) (pos 0) (pos 0) (λ z. z ≡ pos 0) (λ _. refl) (λ _. refl)
+none_of_key k key = grind (arith, ints, nat_tests, common_steps)
 
 of_key_parts : (k key : Key) (q w : ℕ) → w ≤ q → (of_key k key (q - w) +ℤ of_key k key w) ≡ of_key k key q
-of_key_parts k key q w l =
-    elim (same_key key k) as (λ b. (cond b (pos (q - w)) (pos 0) +ℤ cond b (pos w) (pos 0)) ≡ cond b (pos q) (pos 0)) [ true ↦ omega (arith, ints) | false ↦ omega (arith, ints) ]
+of_key_parts k key q w l = grind (arith, ints, nat_tests)
 
 -- a right loses w of its key
 held_less : (k : Key) (n w : ℕ) (rights : List Right) → 1 ≤ (right_at n rights).megawatts → w ≤ (right_at n rights).megawatts
@@ -52,21 +52,11 @@ kept_all : {X : Type 0} (f : X → ℤ) (p : X → Bool) → ((x : X) → p x �
 kept_all f p h [] = refl
 kept_all f p h (x ∷ xs) =
     let r = kept_all f p h xs in
-    (elim (p x) as (λ b. p x ≡ b → sum_z f (cond b (x ∷ filter p xs) (filter p xs)) ≡ (f x +ℤ sum_z f xs))
-    [ true ↦ λ _. omega (arith, ints) | false ↦ λ e. let z = h x e in omega (arith, ints) ]) refl
+    grind (arith, ints, nat_tests)
 
 -- a right of an unfinished key is unfinished
 finished_none : (k : Key) (o : ℕ) → unfinished o k.slot.period ≡ true → (r : Right) → unfinished o r.key.slot.period ≡ false → of_key k r.key r.megawatts ≡ pos 0
-finished_none k o u r n = cond_both (same_key r.key k) (pos r.megawatts) (pos 0) (λ z. z ≡ pos 0)
-    (λ e.
-    let e2 = and_parts (eqb r.key.path.source k.path.source) _ e in
-    let e3 = and_parts (eqb r.key.path.sink k.path.sink) _ e2.1 in
-    let e4 = and_parts (eqb r.key.slot.period.first k.slot.period.first) _ e3.1 in
-    let e5 = and_parts (eqb r.key.slot.period.months k.slot.period.months) _ e4.1 in
-    let f = eqb-true _ _ e4.0 in
-    let m = eqb-true _ _ e5.0 in
-    absurd (both_ways (unfinished o r.key.slot.period) n ((λ i. ltb o (f i + m i)) ∙ u)))
-    (λ _. refl)
+finished_none k o u r n = grind (arith, ints, nat_tests)
 
 submitted_rights : (c : ℕ) (p : Period) (ls : List Line) (s : State) → (submitted s c p ls).rights ≡ s.rights
 submitted_rights c p [] s = refl
@@ -78,9 +68,9 @@ submitted_month c p (l ∷ ls) s = submitted_month c p ls (stand c p s l)
 
 -- an award on the item i
 zero_moves : (k : Key) (s : State) (w : ℕ) (b : Body) → eqb w 0 ≡ true → (held k s +ℤ sells k s b w) ≡ ((held k s +ℤ buys k s b w) +ℤ converts k s b w)
-zero_moves k s w (bid key points price) e = let z = ap (of_key k key) (eqb-true w 0 e) ∙ none_of_key k key in omega (arith, ints)
-zero_moves k s w (offer n points) e = let z = ap (of_key k (right_at n s.rights).key) (eqb-true w 0 e) ∙ none_of_key k (right_at n s.rights).key in omega (arith, ints)
-zero_moves k s w (conversion parts) e = let z = cond-true (eqb w 0) (pos 0) (sum_z (λ l. of_key k l.key l.megawatts) parts) e in omega (arith, ints)
+zero_moves k s w (bid key points price) e = grind (arith, ints, nat_tests, common_steps)
+zero_moves k s w (offer n points) e = grind (arith, ints, nat_tests)
+zero_moves k s w (conversion parts) e = grind (arith, ints, nat_tests)
 
 some_moves : (k : Key) (s : State) (i w : ℕ) (x : ℤ) (b : Body) → b ≡ (item_at i s.items).body → stands s i ≡ true → Sound s
     → BodyBacked s.prices s.month s.rights (item_at i s.items) b → lawful_on b w x ≡ true → eqb w 0 ≡ false
@@ -168,8 +158,7 @@ effect_month s (opening p) = omega arith
 effect_month s (submission w c lines) = let e = submitted_month c w.period lines s in omega arith
 effect_month s (conversion_of w c lines) = omega arith
 effect_month s (closing w) = omega arith
-effect_month s (award w i q x) = cond_both (eqb q 0) (settled s i) (cleared (settled s i) (item_at i s.items).owner (item_at i s.items).body q x) (λ n. s.month ≤ n.month)
-    (λ _. omega arith) (λ _. let e = cleared_month (settled s i) (item_at i s.items).owner (item_at i s.items).body q x in omega arith)
+effect_month s (award w i q x) = grind (arith, ints, nat_tests)
 effect_month s (ending w) = omega arith
 effect_month s (transfer seller buyer i q) = omega arith
 effect_month s month_turn = omega arith

@@ -1,9 +1,10 @@
 -- The unsettled cost of a month from the open one on is at least what the customer's rights of that month cost, so never negative.
-use Rattle.std.proofs.Common.{◌≡◌, ℕ, ◌+◌, ◌-◌, ◌≤◌, Bool, true, false, cond, not, eqb, ltb, List, [], ◌∷◌, map, length, ℤ, pos, negsuc, ◌+ℤ◌, ◌-ℤ◌, ◌*ℤ◌, neg_ℤ, ◌≤ℤ◌, filter, sym, refl, ap, ◌∙◌, subst, arith}
-use lib.IntN.{*ℤ-zero}
+use Rattle.std.proofs.lemmas.Grind.{common_steps}
+use Rattle.std.proofs.lemmas.Bool.Decides.{nat_tests}
+use Rattle.std.proofs.Common.{◌≡◌, ℕ, ◌+◌, ◌-◌, ◌≤◌, Bool, true, false, cond, not, eqb, List, [], ◌∷◌, map, length, ℤ, pos, negsuc, ◌+ℤ◌, ◌-ℤ◌, ◌*ℤ◌, neg_ℤ, ◌≤ℤ◌, filter, sym, refl, ap, ◌∙◌, subst, arith}
 use Rattle.std.specs.List.{AllByRecursion}
 use Rattle.std.proofs.lemmas.Int.{ints}
-use Rattle.std.proofs.lemmas.Bool.{cond_both, cond-false, and_parts, or_parts, ne_eqb, eqb-false}
+use Rattle.std.proofs.lemmas.Bool.{cond-false, and_parts, or_parts, ne_eqb, eqb-false}
 use Rattle.std.proofs.ByRecursion.{All-append, all_kept_by, All-map}
 use Rattle.gate_model.specs.Money.{max0, floor_z, Parts, one, two, three, four, six, twelve}
 use Rattle.gate_model.proofs.Money.{proved}
@@ -12,18 +13,18 @@ use Rattle.gate_model.proofs.Sums.{sum_z-append}
 use Rattle.gate_model.specs.Measures.{Prices, unfinished}
 use Rattle.gate_model.specs.State.{Account, Body, bid, offer, conversion, Item, State, right_at, right_numbered, no_right, item_at, new}
 use Rattle.gate_model.specs.Requirement.{mine, monthly}
-use Rattle.gate_model.specs.Effects.{Line, bears, costed, with_account, secured, charged, drawn, part_of, conversion_item, less, rest, lessened, right_for, rights_of, settled, bought, sold, sale_cost, converted, cleared, awarded, stands_too, item_of, stand, submitted, transferred, turned, repriced, rebooked}
+use Rattle.gate_model.specs.Effects.{Line, bears, costed, with_account, secured, charged, part_of, conversion_item, lessened, right_for, rights_of, settled, bought, sold, sale_cost, converted, cleared, awarded, stands_too, item_of, stand, submitted, transferred, turned, repriced, rebooked}
 use Rattle.gate_model.specs.Calls.{Call, posting, returning, charge, invoice, payment, opening, submission, conversion_of, closing, award, ending, transfer, month_turn, new_book}
 use Rattle.gate_model.specs.Grounds.{grounds, stands, lawful_award, lawful_on, is_idle, after_cents, cents}
 use Rattle.gate_model.specs.Run.{effect, step}
-use Rattle.gate_model.proofs.Firsts.{all_first, all_replaced}
+use Rattle.gate_model.proofs.Firsts.{all_first}
 use Rattle.gate_model.proofs.Months.{lawful_length, parts_of}
 use Rattle.gate_model.proofs.Blocks.{times_minus}
-use Rattle.gate_model.proofs.Rights.{lessened_sum}
-use Rattle.gate_model.proofs.Sound.{PartBacked, BodyBacked, Sound}
-use Rattle.gate_model.proofs.Award.{offer_takes, item_backed, lawful_some}
+use Rattle.gate_model.proofs.Rights.{lessened_sum, all_lessened}
+use Rattle.gate_model.proofs.Sound.{PartBacked, BodyBacked, Sound, committed_above}
+use Rattle.gate_model.proofs.Award.{offer_takes, item_backed, lawful_some, awarded_by}
 use Rattle.gate_model.proofs.Tables.{Unmet, decided_keeps, not_passed, call_passed}
-use Rattle.gate_model.proofs.Steps.{transfer_passed, committed_above}
+use Rattle.gate_model.proofs.Steps.{transfer_passed}
 use Rattle.hours.specs.declared.period.Period.{Period}
 use Rattle.books.specs.declared.key.Key.{Key}
 use Rattle.gate_model.specs.declared.conversion.Part.{Part}
@@ -31,12 +32,12 @@ use Rattle.gate_model.specs.declared.right.Right.{Right}
 
 -- equal parts add up, are at least 0 of what is at least 0, and are 0 of 0
 add_parts : (n : ℕ) (a b : ℤ) → Parts n → floor_z (pos 12 *ℤ (a +ℤ b)) n ≡ floor_z (pos 12 *ℤ a) n +ℤ floor_z (pos 12 *ℤ b) n
-add_parts n a b one = let x = proved.parts 1 (a +ℤ b) one in let y = proved.parts 1 a one in let z = proved.parts 1 b one in omega (arith, ints)
-add_parts n a b two = let x = proved.parts 2 (a +ℤ b) two in let y = proved.parts 2 a two in let z = proved.parts 2 b two in omega (arith, ints)
-add_parts n a b three = let x = proved.parts 3 (a +ℤ b) three in let y = proved.parts 3 a three in let z = proved.parts 3 b three in omega (arith, ints)
-add_parts n a b four = let x = proved.parts 4 (a +ℤ b) four in let y = proved.parts 4 a four in let z = proved.parts 4 b four in omega (arith, ints)
-add_parts n a b six = let x = proved.parts 6 (a +ℤ b) six in let y = proved.parts 6 a six in let z = proved.parts 6 b six in omega (arith, ints)
-add_parts n a b twelve = let x = proved.parts 12 (a +ℤ b) twelve in let y = proved.parts 12 a twelve in let z = proved.parts 12 b twelve in omega (arith, ints)
+add_parts n a b one = grind (arith, ints, nat_tests)
+add_parts n a b two = grind (arith, ints, nat_tests)
+add_parts n a b three = grind (arith, ints, nat_tests)
+add_parts n a b four = grind (arith, ints, nat_tests)
+add_parts n a b six = grind (arith, ints, nat_tests)
+add_parts n a b twelve = grind (arith, ints, nat_tests)
 
 part_above : (n : ℕ) (a : ℤ) → Parts n → pos 0 ≤ℤ a → pos 0 ≤ℤ floor_z (pos 12 *ℤ a) n
 part_above n a one h = let y = proved.parts 1 a one in omega (arith, ints)
@@ -74,10 +75,7 @@ pub record Costed (s : State) : Type 0 where
   pub year : s.month ≤ 12
 
 cost_above : (c m : ℕ) (r : Right) → LawfulMonths r → pos 0 ≤ℤ mine r.owner c (cost_in m r)
-cost_above c m r h = cond_both (eqb r.owner c) (cost_in m r) (pos 0) (λ z. pos 0 ≤ℤ z)
-    (λ _. cond_both (bears r.key.slot.period m) (monthly r.key.slot.period (pos r.megawatts *ℤ max0 r.original)) (pos 0) (λ z. pos 0 ≤ℤ z)
-    (λ _. part_above _ _ (parts_of _ h) (times_above r.megawatts r.original)) (λ _. omega (arith, ints)))
-    (λ _. omega (arith, ints))
+cost_above c m r h = grind (arith, ints, nat_tests)
 
 pub original_above : (c m : ℕ) (rights : List Right) → AllByRecursion LawfulMonths rights → pos 0 ≤ℤ original_for c m rights
 original_above c m [] h = omega (arith, ints)
@@ -85,26 +83,14 @@ original_above c m (r ∷ rs) h = let a = cost_above c m r h.0 in let b = origin
 
 -- a right with the original price 0 cost nothing
 free_right : (d m : ℕ) (r : Right) → LawfulMonths r → r.original ≡ pos 0 → mine r.owner d (cost_in m r) ≡ pos 0
-free_right d m r h e = cond_both (eqb r.owner d) (cost_in m r) (pos 0) (λ z. z ≡ pos 0)
-    (λ _. cond_both (bears r.key.slot.period m) (monthly r.key.slot.period (pos r.megawatts *ℤ max0 r.original)) (pos 0) (λ z. z ≡ pos 0)
-    (λ _. ap (λ y. monthly r.key.slot.period (pos r.megawatts *ℤ max0 y)) e ∙ ap (monthly r.key.slot.period) (*ℤ-zero (pos r.megawatts)) ∙ part_none _ (parts_of _ h)) (λ _. refl))
-    (λ _. refl)
+free_right d m r h e = grind (arith, ints, nat_tests)
 
 settled_costed : (s : State) (k : ℕ) → Costed s → Costed (settled s k)
-settled_costed s k h = record {
-  original = λ d m l. elim (eqb (item_at k s.items).owner d) as (λ b. original_for d m s.rights ≤ℤ (cond b (drawn (neg_ℤ (item_at k s.items).requirement) (s.accounts d)) (s.accounts d)).costs m) [ true ↦ h.original d m l | false ↦ h.original d m l ];
-  lawful = h.lawful;
-  year = h.year;
-}
+settled_costed s k h = grind (arith, ints, nat_tests)
 
 -- changes of an account that leave its costs alone
 account_costed : (s : State) (c : ℕ) (change : Account → Account) → ((a : Account) (m : ℕ) → (change a).costs m ≡ a.costs m) → Costed s → Costed (with_account s c change)
-account_costed s c change f h = record {
-  original = λ d m l. elim (eqb c d) as (λ b. original_for d m s.rights ≤ℤ (cond b (change (s.accounts d)) (s.accounts d)).costs m)
-      [ true ↦ subst (λ z. original_for d m s.rights ≤ℤ z) (sym (f (s.accounts d) m)) (h.original d m l) | false ↦ h.original d m l ];
-  lawful = h.lawful;
-  year = h.year;
-}
+account_costed s c change f h = grind (arith, ints, nat_tests)
 
 bought_costed : (s : State) (c : ℕ) (key : Key) (price : ℤ) (w : ℕ) (x : ℤ) → lawful_length key.slot.period.months ≡ true → Costed s → Costed (bought s c key price w x)
 bought_costed s c key price w x q h = record {
@@ -144,18 +130,14 @@ converted_costed s c parts p o b h = record {
 }
 
 lessened_lawful : (k w : ℕ) (rights : List Right) → AllByRecursion LawfulMonths rights → AllByRecursion LawfulMonths (lessened k w rights)
-lessened_lawful k w rights h = all_replaced LawfulMonths (right_numbered k) (rest w) rights
-    (λ r q. cond_both (ltb w r.megawatts) (less w r ∷ []) [] (AllByRecursion LawfulMonths) (λ _. (q, tt)) (λ _. tt)) h
+lessened_lawful k w rights h = all_lessened LawfulMonths k w rights (λ _ q. q) h
 
 -- what q megawatts of a right cost d in a month
 abbrev share : Right → ℕ → ℕ → ℕ → ℤ
 share r d m q = mine r.owner d (cond (bears r.key.slot.period m) (monthly r.key.slot.period (pos q *ℤ max0 r.original)) (pos 0))
 
 share_none : (r : Right) (d m : ℕ) → LawfulMonths r → share r d m 0 ≡ pos 0
-share_none r d m h = cond_both (eqb r.owner d) (cond (bears r.key.slot.period m) (monthly r.key.slot.period (pos 0 *ℤ max0 r.original)) (pos 0)) (pos 0) (λ z. z ≡ pos 0)
-    (λ _. cond_both (bears r.key.slot.period m) (monthly r.key.slot.period (pos 0 *ℤ max0 r.original)) (pos 0) (λ z. z ≡ pos 0)
-    (λ _. let e : (pos 0 *ℤ max0 r.original) ≡ pos 0 = omega (arith, ints) in ap (monthly r.key.slot.period) e ∙ part_none _ (parts_of _ h)) (λ _. refl))
-    (λ _. refl)
+share_none r d m h = grind (arith, ints, nat_tests)
 
 parts_whole : (p : Period) (q w : ℕ) (v : ℤ) → lawful_length p.months ≡ true → w ≤ q → monthly p (pos q *ℤ v) ≡ monthly p (pos (q - w) *ℤ v) +ℤ monthly p (pos w *ℤ v)
 parts_whole p q w v h l =
@@ -235,8 +217,7 @@ kept_below : (d m : ℕ) (p : Right → Bool) (rights : List Right) → AllByRec
 kept_below d m p [] h = omega (arith, ints)
 kept_below d m p (r ∷ rs) h =
     let i = kept_below d m p rs h.1 in
-    let a = cost_above d m r h.0 in
-    elim (p r) as (λ b. original_for d m (cond b (r ∷ filter p rs) (filter p rs)) ≤ℤ original_for d m (r ∷ rs)) [ true ↦ omega (arith, ints) | false ↦ omega (arith, ints) ]
+    grind (arith, ints, nat_tests)
 
 turned_costed : (s : State) → eqb s.month 12 ≡ false → Costed s → Costed (turned s)
 turned_costed s e h = record {
@@ -262,7 +243,7 @@ rebooked_costed s p h = record {
 }
 
 stands_too_costed : (s : State) (i : Item) → Costed s → Costed (stands_too s i)
-stands_too_costed s i h = let g = account_costed s i.owner (drawn i.requirement) (λ _ _. refl) h in record { original = g.original; lawful = g.lawful; year = g.year }
+stands_too_costed s i h = grind (arith, ints, nat_tests)
 
 submitted_costed : (c : ℕ) (p : Period) (ls : List Line) (s : State) → Costed s → Costed (submitted s c p ls)
 submitted_costed c p [] s h = h
@@ -278,8 +259,7 @@ cleared_costed s k w x (conversion parts) e t g b l h = converted_costed (settle
 
 award_costed : (s : State) (k w : ℕ) (x : ℤ) → stands s k ≡ true → lawful_award (item_at k s.items) w x ≡ true → Sound s → Costed s → Costed (awarded s k w x)
 award_costed s k w x t l g h =
-    cond_both (eqb w 0) (settled s k) (cleared (settled s k) (item_at k s.items).owner (item_at k s.items).body w x) Costed
-    (λ _. settled_costed s k h)
+    awarded_by Costed s k w x (settled_costed s k h)
     (λ z. cleared_costed s k w x (item_at k s.items).body refl t g (item_backed s k t g) (lawful_some (item_at k s.items) w x l z) h)
 
 effect_costed : (s : State) (call : Call) → Sound s → Costed s → AllByRecursion Unmet (grounds s call) → Costed (effect s call).1
@@ -308,4 +288,4 @@ pub step_costed : (s : State) (call : Call) → Sound s → Costed s → Costed 
 step_costed s call g h = decided_keeps (λ n _. Costed n) (grounds s call) s (effect s call) h (effect_costed s call g h)
 
 pub new_costed : (p : Prices) → Costed (new p)
-new_costed p = record { original = λ c m l. omega (arith, ints); lawful = tt; year = omega arith }
+new_costed p = grind (arith, ints, nat_tests, common_steps)

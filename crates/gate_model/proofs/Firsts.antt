@@ -1,8 +1,9 @@
 -- The first of a list that passes a test, and the list with something in its place.
-use Rattle.std.proofs.Common.{◌≡◌, Bool, true, false, cond, ◌||◌, List, [], ◌∷◌, ◌++◌, ℤ, pos, ◌+ℤ◌, ◌≤ℤ◌, arith}
+use Rattle.std.proofs.lemmas.Grind.{common_steps}
+use Rattle.std.proofs.lemmas.Bool.Decides.{nat_tests}
+use Rattle.std.proofs.Common.{◌≡◌, Bool, true, List, [], ◌∷◌, ℤ, pos, ◌+ℤ◌, ◌≤ℤ◌, arith}
 use Rattle.std.proofs.lemmas.Int.{ints}
 use Rattle.std.proofs.lemmas.Bool.{false≢true}
-use Rattle.std.proofs.ByRecursion.{All-append}
 use Rattle.std.specs.List.{AllByRecursion}
 use Rattle.gate_model.specs.Sums.{sum_z}
 use Rattle.gate_model.proofs.Sums.{sum_z-append}
@@ -14,21 +15,19 @@ replaced_sum f p g d [] h = absurd (false≢true h)
 replaced_sum f p g d (x ∷ xs) h =
     let r = replaced_sum f p g d xs in
     let a = sum_z-append f (g x) xs in
-    (elim (p x) as (λ b. (b || any p xs) ≡ true → (sum_z f (cond b (g x ++ xs) (x ∷ replaced p g xs)) +ℤ f (cond b x (the_first p d xs))) ≡ ((f x +ℤ sum_z f xs) +ℤ sum_z f (g (cond b x (the_first p d xs)))))
-    [ true ↦ λ _. omega (arith, ints) | false ↦ λ k. let s = r k in omega (arith, ints) ]) h
+    grind (arith, ints, nat_tests)
 
 pub all_first : {X : Type 0} (P : X → Type 0) (p : X → Bool) (d : X) (xs : List X) → any p xs ≡ true → AllByRecursion P xs → P (the_first p d xs)
 all_first P p d [] h a = absurd (false≢true h)
 all_first P p d (x ∷ xs) h a =
     let r = all_first P p d xs in
-    (elim (p x) as (λ b. (b || any p xs) ≡ true → P (cond b x (the_first p d xs))) [ true ↦ λ _. a.0 | false ↦ λ k. r k a.1 ]) h
+    grind (arith, ints, nat_tests)
 
 pub all_replaced : {X : Type 0} (P : X → Type 0) (p : X → Bool) (g : X → List X) (xs : List X) → ((x : X) → P x → AllByRecursion P (g x)) → AllByRecursion P xs → AllByRecursion P (replaced p g xs)
 all_replaced P p g [] k a = tt
 all_replaced P p g (x ∷ xs) k a =
     let r = all_replaced P p g xs k a.1 in
-    elim (p x) as (λ b. AllByRecursion P (cond b (g x ++ xs) (x ∷ replaced p g xs)))
-    [ true ↦ All-append P (g x) xs (k x a.0) a.1 | false ↦ (a.0, r) ]
+    grind (arith, ints, nat_tests, common_steps)
 
 -- a sum of numbers that are at least 0 is at least 0, and at least each
 pub sum_above : {X : Type 0} (f : X → ℤ) → ((x : X) → pos 0 ≤ℤ f x) → (xs : List X) → pos 0 ≤ℤ sum_z f xs

@@ -1,39 +1,37 @@
 -- Room in the tables, limits of accounts, and numbers that rise.
-use Rattle.std.proofs.Common.{◌≡◌, ℕ, suc, ◌+◌, ◌-◌, ◌^◌, ◌<◌, ◌≤◌, Bool, true, false, cond, not, ◌||◌, eqb, ltb, leb, List, [], ◌∷◌, ◌++◌, map, length, take, ℤ, pos, ◌+ℤ◌, neg_ℤ, None, sum_by, filter, sym, refl, ap, ◌∙◌, subst, arith, length-append}
+use Rattle.gate_model.proofs.Rights.{all_lessened}
+use Rattle.std.proofs.lemmas.Grind.{common_steps}
+use Rattle.std.proofs.lemmas.Bool.Decides.{nat_tests}
+use Rattle.std.proofs.Common.{◌≡◌, ℕ, suc, ◌+◌, ◌-◌, ◌^◌, ◌<◌, ◌≤◌, Bool, true, false, cond, not, eqb, ltb, leb, List, [], ◌∷◌, ◌++◌, map, length, take, ℤ, pos, ◌+ℤ◌, neg_ℤ, None, sum_by, filter, sym, refl, ap, ◌∙◌, subst, arith, length-append, add-zero}
 use lib.ListN.{length-map}
 use lib.Signed.{lt_z}
 use borrow.Author.Differences.{abs_is}
 use Rattle.std.specs.List.{AllByRecursion}
 use Rattle.std.proofs.lemmas.Int.{ints}
-use Rattle.std.proofs.lemmas.Bool.{cond_both, and_parts, or_parts, eqb-true, ltb-false, and_from, ltb-true, leb-true, le-leb, eqb-false, not-false, false≢true}
+use Rattle.std.proofs.lemmas.Bool.{cond_both, and_parts, or_parts, and_from, ltb-true, leb-true, le-leb, not-false, false≢true}
 use Rattle.std.proofs.lemmas.List.Sums.{sum_by-cons, length-filter, count_by-le-length}
-use Rattle.std.proofs.lemmas.List.{take_all}
 use Rattle.std.proofs.ByRecursion.{All-append, All-weaker, all_kept_by, All-map}
 use Rattle.gate_model.specs.Measures.{Prices, lawful_megawatts, unfinished}
 use Rattle.gate_model.specs.State.{Account, Body, bid, offer, conversion, Item, State, the_first, any, replaced, right_at, right_numbered, item_at, item_numbered, no_item, new}
-use Rattle.gate_model.specs.Effects.{Line, changed, with_account, secured, charged, costed, drawn, less, rest, lessened, rights_of, right_for, settled, cleared, stands_too, item_of, stand, submitted, part_of, conversion_item, converting, transferred, month_charged, repriced, unstood}
+use Rattle.gate_model.specs.Effects.{Line, changed, with_account, secured, charged, costed, less, rest, lessened, rights_of, right_for, settled, cleared, stands_too, item_of, stand, submitted, part_of, conversion_item, converting, transferred, month_charged, repriced, unstood}
 use Rattle.gate_model.specs.Calls.{Call, posting, returning, charge, invoice, payment, opening, submission, conversion_of, closing, award, ending, transfer, month_turn, new_book}
-use Rattle.gate_model.specs.Grounds.{lawful_on, at_line, grounds, stands, crowded, lines_of, new_of, standing_lines, standing_new, lawful_count, customers, outside, after_cents, cents}
+use Rattle.gate_model.specs.Grounds.{met_at, lawful_on, at_line, grounds, stands, crowded, lines_of, new_of, standing_lines, standing_new, lawful_count, customers, outside, after_cents, cents}
 use Rattle.gate_model.specs.Run.{effect, step}
 use Rattle.gate_model.specs.Law.{Sane, Roomy, Rising, Numbered}
 use Rattle.gate_model.proofs.Firsts.{all_both, all_replaced}
 use Rattle.gate_model.proofs.Blocks.{bid_block}
 use Rattle.gate_model.proofs.Sound.{PartBacked, BodyBacked, Sound}
-use Rattle.gate_model.proofs.Award.{item_backed, lawful_some}
-use Rattle.gate_model.proofs.Tables.{Unmet, Passes, decided_keeps, call_passed, not_passed, lines_passed, standing_passed, met_is_not_NotMet}
+use Rattle.gate_model.proofs.Award.{item_backed, lawful_some, awarded_by}
+use Rattle.gate_model.proofs.Tables.{Unmet, Passes, decided_keeps, call_passed, not_passed, lines_passed, standing_passed, none_met}
 use Rattle.hours.specs.declared.period.Period.{Period}
 use Rattle.gate_model.specs.declared.conversion.Part.{Part}
 use Rattle.gate_model.specs.declared.conversion.Request.{Request}
 use Rattle.gate_model.specs.declared.right.Right.{Right}
 use Rattle.hours.specs.Bounds.{within}
-use Rattle.gate_model.specs.declared.refusal.Met.TheVariants.{NotMet, MetAt}
 
 -- room
 not_crowded : (s : State) → crowded s ≡ false → Roomy s
-not_crowded s h =
-    let a = or_parts (ltb 128 (standing_lines s)) _ h in
-    let b = or_parts (ltb 256 (length s.rights + standing_new s)) _ a.1 in
-    record { lines = ltb-false _ _ a.0; rights = ltb-false _ _ b.0; numbers = ltb-false _ _ b.1 }
+not_crowded s h = grind (arith, ints, nat_tests)
 
 replaced_count : {X : Type 0} (f : X → ℕ) (p : X → Bool) (d : X) (xs : List X) → any p xs ≡ true → sum_by f (replaced p (λ _. []) xs) + f (the_first p d xs) ≡ sum_by f xs
 replaced_count f p d [] h = absurd (false≢true h)
@@ -41,15 +39,13 @@ replaced_count f p d (x ∷ xs) h =
     let r = replaced_count f p d xs in
     let a = sum_by-cons f x xs in
     let b = sum_by-cons f x (replaced p (λ _. []) xs) in
-    (elim (p x) as (λ t. (t || any p xs) ≡ true → sum_by f (cond t ([] ++ xs) (x ∷ replaced p (λ _. []) xs)) + f (cond t x (the_first p d xs)) ≡ sum_by f (x ∷ xs))
-    [ true ↦ λ _. omega arith | false ↦ λ k. let s = r k in omega arith ]) h
+    grind (arith, ints, nat_tests)
 
 lessened_length : (k w : ℕ) (rs : List Right) → length (lessened k w rs) ≤ length rs
 lessened_length k w [] = omega arith
 lessened_length k w (r ∷ rs) =
     let i = lessened_length k w rs in
-    elim (right_numbered k r) as (λ b. length (cond b (rest w r ++ rs) (r ∷ lessened k w rs)) ≤ suc (length rs))
-    [ true ↦ cond_both (ltb w r.megawatts) (less w r ∷ []) [] (λ xs. length (xs ++ rs) ≤ suc (length rs)) (λ _. omega arith) (λ _. omega arith) | false ↦ omega arith ]
+    grind (arith, ints, nat_tests)
 
 rights_of_length : (given c : ℕ) (parts : List Part) → length (rights_of given c parts) ≡ length parts
 rights_of_length given c [] = refl
@@ -78,28 +74,24 @@ settled_roomy : (s : State) (k : ℕ) → stands s k ≡ true → Roomy s → Ro
 settled_roomy s k t h =
     let r1 = replaced_count (λ i. lines_of i.body) (item_numbered k) no_item s.items t in
     let r2 = replaced_count (λ i. new_of i.body) (item_numbered k) no_item s.items t in
-    let a = h.lines in let c = h.rights in let d = h.numbers in
-    record { lines = omega arith; rights = omega arith; numbers = omega arith }
+    grind (arith, ints, nat_tests)
 
 submitted_roomy : (c : ℕ) (p : Period) (ls : List Line) (s : State) → Passes (stand c p) (λ t l. crowded (stand c p t l)) s ls → Roomy s → Roomy (submitted s c p ls)
 submitted_roomy c p [] s t h = h
 submitted_roomy c p (l ∷ ls) s t h = submitted_roomy c p ls (stand c p s l) t.1 (not_crowded (stand c p s l) t.0)
 
 -- the test of the last line
-last_passed : {X : Type 0} (f : ℕ → Bool) (i : ℕ) (l : X) (ls : List X) → at_line (λ n _. f n) i (l ∷ ls) ≡ NotMet → f (i + length ls) ≡ false
-last_passed f i l [] e =
-    let n : i + 0 ≡ i = omega arith in
-    ap f n ∙ (elim (f i) as (λ b. cond b (MetAt i None) NotMet ≡ NotMet → b ≡ false) [ true ↦ λ k. absurd (met_is_not_NotMet i None k) | false ↦ λ _. refl ]) e
+last_passed : {X : Type 0} (f : ℕ → Bool) (i : ℕ) (l : X) (ls : List X) → at_line (λ n _. f n) i (l ∷ ls) ≡ None → f (i + length ls) ≡ false
+last_passed f i l [] e = rw add-zero (none_met (f i) (met_at i) None e).0
 last_passed f i l (k ∷ ls) e =
-    let r = last_passed f (suc i) k ls in
     let n : i + suc (length ls) ≡ suc i + length ls = omega arith in
-    ap f n ∙ (elim (f i) as (λ b. cond b (MetAt i None) (at_line (λ n _. f n) (suc i) (k ∷ ls)) ≡ NotMet → f (suc i + length ls) ≡ false) [ true ↦ λ q. absurd (met_is_not_NotMet i None q) | false ↦ r ]) e
+    ap f n ∙ last_passed f (suc i) k ls (none_met (f i) (met_at i) _ e).1
 
-converting_roomy : (s : State) (c : ℕ) (p : Period) (lines : List Request) → lawful_count (length lines) ≡ true → at_line (λ i _. crowded (converting s c p (take i lines))) 1 lines ≡ NotMet → Roomy (converting s c p lines)
+converting_roomy : (s : State) (c : ℕ) (p : Period) (lines : List Request) → lawful_count (length lines) ≡ true → at_line (λ i _. crowded (converting s c p (take i lines))) 1 lines ≡ None → Roomy (converting s c p lines)
 converting_roomy s c p [] n e = absurd (false≢true n)
 converting_roomy s c p (l ∷ ls) n e =
     let t = last_passed (λ i. crowded (converting s c p (take i (l ∷ ls)))) 1 l ls e in
-    subst (λ xs. Roomy (converting s c p xs)) (take_all (1 + length ls) (l ∷ ls) (omega arith)) (not_crowded (converting s c p (take (1 + length ls) (l ∷ ls))) t)
+    grind (arith, ints, nat_tests, common_steps)
 
 effect_roomy : (s : State) (call : Call) → Roomy s → AllByRecursion Unmet (grounds s call) → Roomy (effect s call).1
 effect_roomy s (posting c n) h t = record { lines = h.lines; rights = h.rights; numbers = h.numbers }
@@ -113,8 +105,7 @@ effect_roomy s (conversion_of w c lines) h t = converting_roomy s c w.period lin
 effect_roomy s (closing w) h t = record { lines = h.lines; rights = h.rights; numbers = h.numbers }
 effect_roomy s (award w k q x) h t =
     let t13 = and_parts (stands s k) _ (not_passed _ t.1.0) in
-    cond_both (eqb q 0) (settled s k) (cleared (settled s k) (item_at k s.items).owner (item_at k s.items).body q x) Roomy
-    (λ _. settled_roomy s k t13.0 h) (λ _. cleared_roomy s k q x (item_at k s.items).body refl t13.0 h)
+    awarded_by Roomy s k q x (settled_roomy s k t13.0 h) (λ _. cleared_roomy s k q x (item_at k s.items).body refl t13.0 h)
 effect_roomy s (ending w) h t = let a = h.rights in let b = h.numbers in record { lines = omega arith; rights = omega arith; numbers = omega arith }
 effect_roomy s (transfer seller buyer k q) h t = not_crowded (transferred s buyer k q) (call_passed _ t.1.1.1.1.0)
 effect_roomy s month_turn h t =
@@ -128,15 +119,14 @@ pub step_roomy : (s : State) (call : Call) → Roomy s → Roomy (step s call).1
 step_roomy s call h = decided_keeps (λ n _. Roomy n) (grounds s call) s (effect s call) h (effect_roomy s call h)
 
 pub new_roomy : (p : Prices) → Roomy (new p)
-new_roomy p = record { lines = omega arith; rights = omega arith; numbers = omega arith }
+new_roomy p = grind (arith, ints, nat_tests, common_steps)
 
 -- accounts
 abbrev AllSane : (ℕ → Account) → Type 0
 AllSane accounts = AllByRecursion (λ c. Sane (accounts c)) customers
 
 changed_sane : (accounts : ℕ → Account) (c : ℕ) (change : Account → Account) → (Sane (accounts c) → Sane (change (accounts c))) → AllSane accounts → AllSane (changed accounts c change)
-changed_sane accounts c change f h = All-weaker (λ d. Sane (accounts d)) (λ d. Sane (changed accounts c change d))
-    (λ d s. cond_both (eqb c d) (change (accounts d)) (accounts d) Sane (λ e. subst (λ i. Sane (accounts i) → Sane (change (accounts i))) (eqb-true c d e) f s) (λ _. s)) customers h
+changed_sane accounts c change f h = grind (arith, ints, nat_tests)
 
 untouched : (a b : Account) → b.security ≡ a.security → b.invoiced ≡ a.invoiced → b.calculated ≡ a.calculated → Sane a → Sane b
 untouched a b e1 e2 e3 h = record {
@@ -146,17 +136,17 @@ untouched a b e1 e2 e3 h = record {
 }
 
 stands_too_sane : (s : State) (i : Item) → AllSane s.accounts → AllSane (stands_too s i).accounts
-stands_too_sane s i h = changed_sane s.accounts i.owner (drawn i.requirement) (λ a. record { security = a.security; invoiced = a.invoiced; calculated = a.calculated }) h
+stands_too_sane s i h = grind (arith, ints, nat_tests)
 
 submitted_sane : (c : ℕ) (p : Period) (ls : List Line) (s : State) → AllSane s.accounts → AllSane (submitted s c p ls).accounts
 submitted_sane c p [] s h = h
 submitted_sane c p (l ∷ ls) s h = submitted_sane c p ls (stand c p s l) (stands_too_sane s (item_of s c p l) h)
 
 settled_sane : (s : State) (k : ℕ) → AllSane s.accounts → AllSane (settled s k).accounts
-settled_sane s k h = changed_sane s.accounts (item_at k s.items).owner (drawn (neg_ℤ (item_at k s.items).requirement)) (λ a. record { security = a.security; invoiced = a.invoiced; calculated = a.calculated }) h
+settled_sane s k h = grind (arith, ints, nat_tests)
 
 costed_sane : (accounts : ℕ → Account) (c : ℕ) (p : Period) (z : ℤ) → AllSane accounts → AllSane (changed accounts c (costed p z))
-costed_sane accounts c p z h = changed_sane accounts c (costed p z) (λ a. record { security = a.security; invoiced = a.invoiced; calculated = a.calculated }) h
+costed_sane accounts c p z h = grind (arith, ints, nat_tests)
 
 cleared_sane : (s : State) (c : ℕ) (b : Body) (w : ℕ) (x : ℤ) → AllSane s.accounts → AllSane (cleared s c b w x).accounts
 cleared_sane s c (bid key points price) w x h = costed_sane s.accounts c _ _ h
@@ -166,9 +156,8 @@ cleared_sane s c (conversion parts) w x h = h
 secured_sane : (s : State) (c : ℕ) (n : ℤ) → outside (after_cents s c n) ≡ false → AllSane s.accounts → AllSane (with_account s c (secured (cents (after_cents s c n)))).accounts
 secured_sane s c n t h =
     let t2 = or_parts (lt_z (after_cents s c n) (pos 0)) _ t in
-    let u = t2.0 in let v = t2.1 in
     let l : cents (after_cents s c n) ≤ 10 ^ 13 = let z = abs_is (after_cents s c n) in omega (arith, ints) in
-    changed_sane s.accounts c (secured (cents (after_cents s c n))) (λ a. record { security = l; invoiced = a.invoiced; calculated = a.calculated }) h
+    grind (arith, ints, nat_tests)
 
 effect_sane : (s : State) (call : Call) → AllSane s.accounts → AllByRecursion Unmet (grounds s call) → AllSane (effect s call).1.accounts
 effect_sane s (posting c n) h t = secured_sane s c n (or_parts (lt_z n (pos 1)) _ (call_passed _ t.1.0)).1 h
@@ -185,8 +174,7 @@ effect_sane s (submission w c lines) h t = submitted_sane c w.period lines s h
 effect_sane s (conversion_of w c lines) h t = stands_too_sane s (conversion_item (length s.items + 1) c (map (part_of s w.period) lines)) h
 effect_sane s (closing w) h t = h
 effect_sane s (award w k q x) h t =
-    cond_both (eqb q 0) (settled s k) (cleared (settled s k) (item_at k s.items).owner (item_at k s.items).body q x) (λ n. AllSane n.accounts)
-    (λ _. settled_sane s k h) (λ _. cleared_sane (settled s k) (item_at k s.items).owner (item_at k s.items).body q x (settled_sane s k h))
+    awarded_by (λ n. AllSane n.accounts) s k q x (settled_sane s k h) (λ _. cleared_sane (settled s k) (item_at k s.items).owner (item_at k s.items).body q x (settled_sane s k h))
 effect_sane s (ending w) h t = All-weaker (λ c. Sane (s.accounts c)) (λ c. Sane (unstood (s.accounts c))) (λ c a. record { security = a.security; invoiced = a.invoiced; calculated = a.calculated }) customers h
 effect_sane s (transfer seller buyer k q) h t = h
 effect_sane s month_turn h t =
@@ -199,7 +187,7 @@ pub step_sane : (s : State) (call : Call) → AllByRecursion (λ c. Sane (s.acco
 step_sane s call h = decided_keeps (λ n _. AllSane n.accounts) (grounds s call) s (effect s call) h (effect_sane s call h)
 
 pub new_sane : (p : Prices) → AllByRecursion (λ c. Sane ((new p).accounts c)) customers
-new_sane p = All-weaker (λ c. Unit {0}) (λ c. Sane ((new p).accounts c)) (λ c _. record { security = omega arith; invoiced = refl; calculated = refl }) customers (tt, (tt, (tt, (tt, (tt, (tt, (tt, (tt, (tt, (tt, (tt, (tt, (tt, (tt, (tt, (tt, tt))))))))))))))))
+new_sane p = grind (arith, ints, nat_tests)
 
 -- numbers
 rising-append : (xs ys : List Right) (n : ℕ) → Rising xs → Rising ys → AllByRecursion (λ x. x.number ≤ n) xs → AllByRecursion (λ y. n < y.number) ys → Rising (xs ++ ys)
@@ -209,10 +197,6 @@ rising-append (x ∷ xs) ys n h g a b =
       All-append (λ t. x.number < t.number) xs ys h.0 (All-weaker (λ y. n < y.number) (λ t. x.number < t.number) (λ y m. omega arith) ys b),
       rising-append xs ys n h.1 g a.1 b,
     )
-
-all_lessened : (P : Right → Type 0) (k w : ℕ) (rs : List Right) → ((r : Right) → P r → P (less w r)) → AllByRecursion P rs → AllByRecursion P (lessened k w rs)
-all_lessened P k w rs f h = all_replaced P (right_numbered k) (rest w) rs
-    (λ r q. cond_both (ltb w r.megawatts) (less w r ∷ []) [] (AllByRecursion P) (λ _. (f r q, tt)) (λ _. tt)) h
 
 rising_lessened : (k w : ℕ) (rs : List Right) → Rising rs → Rising (lessened k w rs)
 rising_lessened k w [] h = tt
@@ -273,8 +257,8 @@ effect_numbered s (submission w c lines) h = submitted_numbered c w.period lines
 effect_numbered s (conversion_of w c lines) h = record { rising = h.rising; given = h.given }
 effect_numbered s (closing w) h = record { rising = h.rising; given = h.given }
 effect_numbered s (award w k q x) h =
-    cond_both (eqb q 0) (settled s k) (cleared (settled s k) (item_at k s.items).owner (item_at k s.items).body q x) Numbered
-    (λ _. record { rising = h.rising; given = h.given }) (λ _. cleared_numbered (settled s k) (item_at k s.items).owner (item_at k s.items).body q x record { rising = h.rising; given = h.given })
+    awarded_by Numbered s k q x record { rising = h.rising; given = h.given }
+    (λ _. cleared_numbered (settled s k) (item_at k s.items).owner (item_at k s.items).body q x record { rising = h.rising; given = h.given })
 effect_numbered s (ending w) h = record { rising = h.rising; given = h.given }
 effect_numbered s (transfer seller buyer k q) h =
     let r = right_at k s.rights in
@@ -307,9 +291,8 @@ parts_sized p o given c (l ∷ ls) h = (h.0.size, parts_sized p o (given + 1) c 
 
 cleared_sized : (s : State) (k w : ℕ) (x : ℤ) (b : Body) → BodyBacked s.prices s.month s.rights (item_at k s.items) b → lawful_on b w x ≡ true → eqb w 0 ≡ false → Sized s → Sized (cleared (settled s k) (item_at k s.items).owner b w x)
 cleared_sized s k w x (bid key points price) b l z h =
-    let n = eqb-false w 0 z in
     let m = bid_block points w x b.curve l in
-    All-append (λ r. lawful_megawatts r.megawatts ≡ true) s.rights (right_for (s.given + 1) (item_at k s.items).owner key w price x ∷ []) h (sized w (omega (arith, n)) m, tt)
+    grind (arith, ints, nat_tests, common_steps)
 cleared_sized s k w x (offer n points) b l z h = lessened_sized n w s.rights h
 cleared_sized s k w x (conversion parts) b l z h =
     All-append (λ r. lawful_megawatts r.megawatts ≡ true) s.rights (rights_of s.given (item_at k s.items).owner parts) h (parts_sized s.prices s.month s.given (item_at k s.items).owner parts b.each)
@@ -330,8 +313,7 @@ effect_sized s (conversion_of w c lines) g h t = h
 effect_sized s (closing w) g h t = h
 effect_sized s (award w k q x) g h t =
     let t13 = and_parts (stands s k) _ (not_passed _ t.1.0) in
-    cond_both (eqb q 0) (settled s k) (cleared (settled s k) (item_at k s.items).owner (item_at k s.items).body q x) Sized
-    (λ _. h) (λ z. cleared_sized s k q x (item_at k s.items).body (item_backed s k t13.0 g) (lawful_some (item_at k s.items) q x t13.1 z) z h)
+    awarded_by Sized s k q x h (λ z. cleared_sized s k q x (item_at k s.items).body (item_backed s k t13.0 g) (lawful_some (item_at k s.items) q x t13.1 z) z h)
 effect_sized s (ending w) g h t = h
 effect_sized s (transfer seller buyer k q) g h t =
     let r = right_at k s.rights in

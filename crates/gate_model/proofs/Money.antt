@@ -1,6 +1,8 @@
-use Rattle.std.proofs.Common.{◌≡◌, ℕ, suc, ◌+◌, ◌-◌, ◌*◌, ◌<◌, ◌≤◌, List, [], ◌∷◌, ℤ, pos, negsuc, ◌+ℤ◌, ◌-ℤ◌, ◌*ℤ◌, ◌≤ℤ◌, ap, mul-le-mul, arith}
+use Rattle.std.proofs.lemmas.Grind.{common_steps}
+use Rattle.std.proofs.lemmas.Bool.Decides.{nat_tests}
+use Rattle.std.proofs.Common.{◌≡◌, ℕ, ◌+◌, ◌-◌, ◌*◌, ◌<◌, ◌≤◌, List, [], ◌∷◌, ℤ, pos, negsuc, ◌+ℤ◌, ◌-ℤ◌, ◌*ℤ◌, ◌≤ℤ◌, mul-le-mul, arith}
 use Rattle.std.specs.Int.{int_max}
-use borrow.Author.Differences.{up, down, sum_is_lem}
+use borrow.Author.Differences.{up, down}
 use Rattle.std.proofs.lemmas.Int.{ints, clamps}
 use Rattle.std.specs.List.{AllByRecursion}
 use Rattle.gate_model.specs.Money.{max0, floor_z, one, two, three, four, six, twelve, BidLaw, OfferLaw, ConversionLaw, PartsLaw, FloorLaw, greatest, MoneyLaws}
@@ -18,7 +20,7 @@ scaled w q (negsuc n) (pos m) h l = omega (arith, ints, max0_is)
 scaled w q (negsuc n) (negsuc m) h l = omega (arith, ints, max0_is)
 
 bid : BidLaw
-bid w q x c r h l = scaled (12 * w) (12 * q) (max0 x -ℤ r) (max0 c -ℤ r) (omega arith) (omega (arith, ints, max0_is))
+bid w q x c r h l = grind (arith, ints, nat_tests, common_steps)
 
 -- the same with nothing cut off, where the larger number is at least 0
 pub scaled_up : (w q : ℕ) (e d : ℤ) → w ≤ q → e ≤ℤ d → pos 0 ≤ℤ d → (pos w *ℤ e) ≤ℤ (pos q *ℤ d)
@@ -46,10 +48,7 @@ parts n z six = omega (arith, ints, floor_is)
 parts n z twelve = omega (arith, ints, floor_is)
 
 floor : FloorLaw
-floor z d =
-    let f = floor_is z (suc d) (omega arith) in
-    let more = ap (λ n. suc d * n) (sum_is_lem (floor_z z (suc d)) (pos 1)) in
-    omega (arith, ints)
+floor z d = grind (arith, ints, nat_tests)
 
 greatest_low : (x : ℤ) (xs : List ℤ) → x ≤ℤ greatest x xs
 greatest_low x [] = omega (arith, ints)
@@ -59,8 +58,7 @@ greatest_bounds : (x : ℤ) (xs : List ℤ) (r : ℤ) → greatest x xs ≤ℤ r
 greatest_bounds x [] r h = (h, tt)
 greatest_bounds x (y ∷ ys) r h =
     let b = greatest_bounds (int_max x y) ys r h in
-    let l = b.0 in
-    (omega (arith, ints, clamps), (omega (arith, ints, clamps), b.1))
+    grind (arith, ints, nat_tests)
 
 greatest_least : (x : ℤ) (xs : List ℤ) (r : ℤ) → AllByRecursion (λ y. y ≤ℤ r) (x ∷ xs) → greatest x xs ≤ℤ r
 greatest_least x [] r h = h.0

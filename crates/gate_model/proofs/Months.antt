@@ -1,10 +1,11 @@
 -- Sums over months, and the equal parts of a period.
-use Rattle.std.proofs.Common.{◌≡◌, ℕ, zero, suc, ◌+◌, ◌-◌, ◌≤◌, min, max, Bool, true, false, cond, ◌&&◌, ◌||◌, eqb, ltb, leb, ℤ, pos, ◌+ℤ◌, ◌*ℤ◌, sym, ap, ◌∙◌, subst, ⊎_elim, arith}
+use Rattle.std.proofs.Common.{rules}
+use Rattle.std.proofs.lemmas.Grind.{common_steps}
+use Rattle.std.proofs.Common.{◌≡◌, ℕ, zero, suc, ◌+◌, ◌-◌, ◌≤◌, min, max, Bool, true, false, cond, ◌&&◌, ◌||◌, eqb, ltb, leb, ℤ, pos, ◌+ℤ◌, ◌*ℤ◌, sym, ◌∙◌, subst, ⊎_elim, arith}
 use Rattle.std.proofs.lemmas.Int.{ints}
-use Rattle.std.proofs.lemmas.Bool.{or_cases, and_parts, eqb-true, leb-true, le-leb, cond-true}
+use Rattle.std.proofs.lemmas.Bool.{or_cases, eqb-true}
 use Rattle.std.proofs.lemmas.Bool.Decides.{nat_tests}
 use Rattle.gate_model.specs.Money.{Parts, one, two, three, four, six, twelve}
-use Rattle.gate_model.proofs.Money.{proved}
 use Rattle.gate_model.specs.State.{Account}
 use Rattle.gate_model.specs.Requirement.{over, unsettled, monthly, value_left}
 use Rattle.gate_model.specs.Effects.{bears, spread, costed}
@@ -49,21 +50,18 @@ pub record Ahead (o : ℕ) (p : Period) : Type 0 where
 
 -- its months bear in all what is shared out
 pub whole : (o : ℕ) (p : Period) (z : ℤ) → Ahead o p → (pos p.months *ℤ monthly p z) ≡ (pos 12 *ℤ z)
-whole o p z h = proved.parts p.months z (parts_of p.months (and_parts (lawful_length p.months) _ h.lawful).0)
+whole o p z h = search rules
 
 last_month : (o : ℕ) (p : Period) → Ahead o p → p.first + p.months ≤ 13
-last_month o p h = leb-true _ _ (and_parts (leb 1 p.first) _ (and_parts (lawful_length p.months) _ h.lawful).1).1
+last_month o p h = grind (arith, ints, nat_tests, common_steps)
 
 pub unsettled_costed : (o : ℕ) (p : Period) (z : ℤ) (a : Account) → Ahead o p → unsettled o (costed p (monthly p z) a) ≡ unsettled o a +ℤ (pos 12 *ℤ z)
 unsettled_costed o p z a h =
     let s = over_spread p (monthly p z) a.costs o (13 - o) in
     let l = last_month o p h in
-    let b = h.begins in
     let n : borne p.first (p.first + p.months) o (13 - o) ≡ p.months = borne_is p.first (p.first + p.months) o (13 - o) ∙ omega arith in
     let w = whole o p z h in
-    s ∙ ap (λ k. over a.costs o (13 - o) +ℤ (pos k *ℤ monthly p z)) n ∙ ap (λ k. over a.costs o (13 - o) +ℤ k) w
+    grind (arith, ints, nat_tests)
 
 pub value_ahead : (o : ℕ) (r : Right) → Ahead o r.key.slot.period → value_left o r ≡ pos 12 *ℤ (pos r.megawatts *ℤ r.price)
-value_ahead o r h =
-    ap (λ n. pos n *ℤ monthly r.key.slot.period (pos r.megawatts *ℤ r.price)) (cond-true (leb o r.key.slot.period.first) r.key.slot.period.months _ (le-leb _ _ h.begins))
-    ∙ whole o r.key.slot.period (pos r.megawatts *ℤ r.price) h
+value_ahead o r h = grind (arith, ints, nat_tests)

@@ -1,21 +1,22 @@
 -- The invariant of all states that a gate reaches, and that it survives new rights, lost megawatts and items that leave.
-use Rattle.std.proofs.Common.{◌≡◌, ℕ, ◌<◌, true, false, cond, eqb, ltb, List, [], ◌∷◌, ◌++◌, ℤ, pos, ◌+ℤ◌, neg_ℤ, ◌≤ℤ◌, Ok, sym, refl, ap, subst, ⊎_elim, arith}
+use Rattle.std.proofs.lemmas.Bool.Decides.{nat_tests}
+use Rattle.std.proofs.Common.{◌≡◌, ℕ, ◌<◌, true, false, cond, eqb, List, [], ◌∷◌, ◌++◌, ℤ, pos, ◌+ℤ◌, neg_ℤ, ◌≤ℤ◌, Ok, sym, refl, ap, subst, ⊎_elim, arith}
 use Rattle.std.specs.List.{AllByRecursion}
 use Rattle.std.proofs.lemmas.Int.{ints}
-use Rattle.std.proofs.lemmas.Bool.{cases_eq, cases_lt, cond_both, eq-eqb, cond-true}
+use Rattle.std.proofs.lemmas.Bool.{cases_eq, cases_lt, eq-eqb, cond-true}
 use Rattle.std.proofs.ByRecursion.{All-append}
 use Rattle.gate_model.specs.Sums.{sum_z}
 use Rattle.gate_model.specs.Measures.{Prices, lawful_megawatts}
 use Rattle.gate_model.specs.Curves.{bid_requirement, offer_requirement, conversion_requirement, greatest_cost, greatest_loss, lawful_bid, lawful_offer, top}
-use Rattle.gate_model.specs.State.{Account, Body, bid, offer, conversion, Item, State, right_at, right_numbered, item_at, item_numbered, no_item, replaced}
+use Rattle.gate_model.specs.State.{Account, Body, bid, offer, conversion, Item, State, right_at, item_at, item_numbered, no_item, replaced}
 use Rattle.gate_model.specs.Requirement.{mine, required, commits_body, committed}
-use Rattle.gate_model.specs.Effects.{less, rest, lessened, settled, drawn}
+use Rattle.gate_model.specs.Effects.{lessened, settled, drawn}
 use Rattle.gate_model.specs.Grounds.{stands}
 use Rattle.gate_model.specs.Law.{RightPriced, PartPriced}
 use Rattle.gate_model.proofs.Firsts.{replaced_sum, all_replaced, sum_above, all_both}
 use Rattle.gate_model.proofs.Months.{Ahead}
 use Rattle.gate_model.proofs.Blocks.{most_above, conversion_above, offer_top}
-use Rattle.gate_model.proofs.Rights.{right_append, lessened_same, lessened_other}
+use Rattle.gate_model.proofs.Rights.{right_append, lessened_same, lessened_other, all_lessened}
 use Rattle.books.specs.declared.key.Key.{Key}
 use Rattle.gate_model.specs.declared.point.Point.{Point}
 use Rattle.gate_model.specs.declared.conversion.Part.{Part}
@@ -58,8 +59,8 @@ Backed p o rights i = BodyBacked p o rights i i.body
 -- nothing stands while the gate is Idle, and the period of an open window lies ahead
 abbrev pub WindowSound : ℕ → List Item → Phase → Type 0
 WindowSound o items Idle = items ≡ []
-WindowSound o items (Open n p) = Ahead o p
-WindowSound o items (Closed n p) = Unit {0}
+WindowSound o items (Open w) = Ahead o w.period
+WindowSound o items (Closed w) = Unit {0}
 
 pub record Sound (s : State) : Type 0 where
   pub sums : (c : ℕ) → (s.accounts c).standing ≡ required c s.items
@@ -70,13 +71,16 @@ pub record Sound (s : State) : Type 0 where
 
 pub window_items : (o : ℕ) (xs ys : List Item) (phase : Phase) → (xs ≡ [] → ys ≡ []) → WindowSound o xs phase → WindowSound o ys phase
 window_items o xs ys Idle f h = f h
-window_items o xs ys (Open n p) f h = h
-window_items o xs ys (Closed n p) f h = h
+window_items o xs ys (Open w) f h = h
+window_items o xs ys (Closed w) f h = h
 
 pub commits_above : (k : ℕ) (b : Body) → pos 0 ≤ℤ commits_body k b
 commits_above k (bid key points price) = omega (arith, ints)
-commits_above k (offer j points) = cond_both (eqb j k) (pos (top 0 points)) (pos 0) (λ z. pos 0 ≤ℤ z) (λ _. omega (arith, ints)) (λ _. omega (arith, ints))
+commits_above k (offer j points) = grind (arith, ints, nat_tests)
 commits_above k (conversion parts) = omega (arith, ints)
+
+pub committed_above : (n : ℕ) (items : List Item) → pos 0 ≤ℤ committed n items
+committed_above n items = sum_above (λ i. commits_body n i.body) (λ i. commits_above n i.body) items
 
 pub requirement_above : (p : Prices) (o : ℕ) (rights : List Right) (i : Item) (b : Body) → BodyBacked p o rights i b → pos 0 ≤ℤ i.requirement
 requirement_above p o rights i (bid key points price) h = subst (λ v. pos 0 ≤ℤ v) (sym h.requirement_is) (most_above _ points)
@@ -144,8 +148,7 @@ rights_less p o rs items k w h l = record {
       (⊎_elim (λ m. let f = ap (λ r. r.megawatts) (lessened_same k w rs m) in omega (arith, ints)) (λ m. omega (arith, ints)) (cases_lt w (right_at k rs).megawatts)))
       (λ n. let f = ap (λ r. r.megawatts) (lessened_other k w j rs n) in omega (arith, ints))
       (cases_eq j k);
-  priced = all_replaced (RightPriced p) (right_numbered k) (rest w) rs
-      (λ r q. cond_both (ltb w r.megawatts) (less w r ∷ []) [] (AllByRecursion (RightPriced p)) (λ _. (q, tt)) (λ _. tt)) h.priced;
+  priced = all_lessened (RightPriced p) k w rs (λ _ q. q) h.priced;
 }
 
 pub standing_of : (s : State) → Sound s → StandingSound s.prices s.month s.rights s.items

@@ -1,8 +1,10 @@
 -- Submissions and conversions: what comes to stand is backed and covered, and its owner stays within.
-use Rattle.std.proofs.Common.{◌≡◌, ℕ, ◌+◌, true, false, cond, not, eqb, List, [], ◌∷◌, ◌++◌, map, length, ℤ, pos, ◌+ℤ◌, ◌≤ℤ◌, Ok, sym, refl, ap, subst, ⊎_elim, arith}
+use Rattle.std.proofs.Common.{rules}
+use Rattle.std.proofs.lemmas.Bool.Decides.{nat_tests}
+use Rattle.std.proofs.Common.{◌≡◌, ℕ, ◌+◌, true, false, cond, not, eqb, List, [], ◌∷◌, ◌++◌, map, length, ℤ, pos, ◌+ℤ◌, ◌≤ℤ◌, Ok, sym, refl, ap, subst, arith}
 use Rattle.std.specs.List.{AllByRecursion}
 use Rattle.std.proofs.lemmas.Int.{ints}
-use Rattle.std.proofs.lemmas.Bool.{cases_Bool, cond_both, and_parts, eqb-true, eq-eqb, and_from, not-false, false≢true}
+use Rattle.std.proofs.lemmas.Bool.{cond_both, and_parts, eqb-true, not-false, false≢true}
 use Rattle.std.proofs.ByRecursion.{All-push}
 use Rattle.gate_model.proofs.Sums.{sum_z-append}
 use Rattle.gate_model.specs.Measures.{same_period}
@@ -18,7 +20,7 @@ use Rattle.gate_model.proofs.Sound.{PartBacked, Backed, Sound, WindowSound}
 use Rattle.hours.specs.declared.period.Period.{Period}
 use Rattle.gate_model.specs.declared.conversion.Request.{Request}
 use Rattle.gate_model.specs.declared.phase.Phase.{Phase}
-use Rattle.gate_model.specs.declared.phase.Shown.{Shown}
+use Rattle.gate_model.specs.declared.phase.Window.{Window}
 use Rattle.gate_model.specs.declared.phase.Phase.TheVariants.{Idle, Open, Closed}
 use Rattle.books.specs.Keys.{lawful_path}
 use Rattle.hours.specs.Periods.{lawful_class}
@@ -29,20 +31,16 @@ not_above s c h = omega (arith, ints)
 
 -- a change of which its customer is tested, and that leaves the others alone
 pub tested_keeps : (n : State) (c d : ℕ) → above n c ≡ false → (eqb c d ≡ false → Within n d) → Within n d
-tested_keeps n c d h f = ⊎_elim (λ e. subst (Within n) (eqb-true c d e) (not_above n c h)) f (cases_Bool (eqb c d))
+tested_keeps n c d h f = search rules
 
 same_ahead : (o : ℕ) (p q : Period) → same_period p q ≡ true → Ahead o p → Ahead o q
-same_ahead o p q e h =
-    let e2 = and_parts (eqb p.first q.first) _ e in
-    let f = eqb-true _ _ e2.0 in
-    let m = eqb-true _ _ e2.1 in
-    subst (Ahead o) (λ i. record { first = f i; months = m i }) h
+same_ahead o p q e h = grind (arith, ints, nat_tests)
 
 -- an open window's period lies ahead, and anything may stand
-pub open_ahead : (o : ℕ) (items : List Item) (phase : Phase) (w : Shown) → shows_open phase w ≡ true → WindowSound o items phase → Ahead o w.period × ((xs : List Item) → WindowSound o xs phase)
+pub open_ahead : (o : ℕ) (items : List Item) (phase : Phase) (w : Window) → shows_open phase w ≡ true → WindowSound o items phase → Ahead o w.period × ((xs : List Item) → WindowSound o xs phase)
 open_ahead o items Idle w e h = absurd (false≢true e)
-open_ahead o items (Open n p) w e h = (same_ahead o p w.period (and_parts (eqb n w.auction) _ e).1 h, λ _. h)
-open_ahead o items (Closed n p) w e h = absurd (false≢true e)
+open_ahead o items (Open v) w e h = search rules
+open_ahead o items (Closed v) w e h = absurd (false≢true e)
 
 pub stands_too_sound : (s : State) (i : Item) → Sound s → Backed s.prices s.month s.rights i
     → ((k : ℕ) → (committed k s.items +ℤ commits_body k i.body) ≤ℤ pos (right_at k s.rights).megawatts)
@@ -71,9 +69,7 @@ stands_too_within s i d t h = tested_keeps (stands_too s i) i.owner d t
     (λ e. subst (λ a. Holds s.month a (values s.month d s.rights)) (sym (other_account s.accounts i.owner d (drawn i.requirement) e)) h)
 
 turned_round : (p q : Period) → same_period p q ≡ true → same_period q p ≡ true
-turned_round p q e =
-    let e2 = and_parts (eqb p.first q.first) _ e in
-    and_from (eqb q.first p.first) _ (eq-eqb _ _ (sym (eqb-true _ _ e2.0))) (eq-eqb _ _ (sym (eqb-true _ _ e2.1)))
+turned_round p q e = grind (arith, ints, nat_tests)
 
 line_sound : (c : ℕ) (p : Period) (s : State) (l : Line) → Sound s → Ahead s.month p → ((xs : List Item) → WindowSound s.month xs s.phase)
     → lawful_line l ≡ true → owns c s.rights l ≡ true → free p s l ≡ true → asked s.prices s.rights p l ≡ Ok (price_or_zero (asked s.prices s.rights p l))

@@ -1,27 +1,27 @@
 -- Every call keeps the state sound, and takes nobody from within to above unless it may.
-use Rattle.std.proofs.Common.{◌≡◌, ℕ, ◌+◌, ◌*◌, ◌≤◌, true, false, cond, not, eqb, leb, List, [], ◌∷◌, map, length, ℤ, pos, ◌+ℤ◌, ◌-ℤ◌, neg_ℤ, ◌≤ℤ◌, Ok, sym, refl, ap, ◌∙◌, subst, ⊎_elim, arith}
+use Rattle.std.proofs.lemmas.Grind.{common_steps}
+use Rattle.std.proofs.lemmas.Bool.Decides.{nat_tests}
+use Rattle.std.proofs.Common.{◌≡◌, ℕ, ◌+◌, ◌≤◌, true, false, cond, not, eqb, leb, List, [], ◌∷◌, map, length, ℤ, pos, ◌+ℤ◌, neg_ℤ, ◌≤ℤ◌, Ok, sym, refl, ap, ◌∙◌, subst, arith}
 use lib.Signed.{lt_z}
-use borrow.Author.Differences.{abs_is}
 use Rattle.std.specs.List.{AllByRecursion}
 use Rattle.std.proofs.lemmas.Int.{ints}
-use Rattle.std.proofs.lemmas.Bool.{cases_Bool, cond_both, and_parts, or_parts, eqb-true, leb-true, true≢false, false≢true, not-false}
+use Rattle.std.proofs.lemmas.Bool.{cond_both, and_parts, or_parts, leb-true, true≢false, false≢true, not-false}
 use Rattle.std.proofs.ByRecursion.{all_kept_by, All-map}
-use Rattle.gate_model.specs.Money.{max0}
 use Rattle.gate_model.proofs.Sums.{sum_z-append}
 use Rattle.gate_model.specs.Measures.{Prices, unfinished}
 use Rattle.gate_model.specs.State.{Account, Item, State, right_at, right_numbered, no_right, any, new}
-use Rattle.gate_model.specs.Requirement.{mine, unsettled, charges, values, value_left, required, above, Within, commits_body, committed}
+use Rattle.gate_model.specs.Requirement.{mine, unsettled, values, value_left, required, above, Within, committed}
 use Rattle.gate_model.specs.Effects.{with_account, secured, charged, price_or_zero, less, lessened, right_for, stand, part_of, conversion_item, transferred, turned, repriced, rebooked, ended}
 use Rattle.gate_model.specs.Calls.{Call, posting, returning, charge, invoice, payment, opening, submission, conversion_of, closing, award, ending, transfer, month_turn, new_book}
 use Rattle.gate_model.specs.Grounds.{grounds, is_idle, stands, after_cents, cents}
 use Rattle.gate_model.specs.Run.{effect, step}
 use Rattle.gate_model.specs.Law.{RightPriced, may_raise}
-use Rattle.gate_model.proofs.Firsts.{all_first, sum_above}
+use Rattle.gate_model.proofs.Firsts.{all_first}
 use Rattle.gate_model.proofs.Rights.{lessened_sum}
-use Rattle.gate_model.proofs.Sound.{Backed, Sound, WindowSound, standing_of, rights_more, rights_less, commits_above, requirement_above}
-use Rattle.gate_model.proofs.Award.{Holds, lowered, award_within, award_sound}
+use Rattle.gate_model.proofs.Sound.{Backed, Sound, WindowSound, standing_of, rights_more, rights_less, requirement_above, committed_above}
+use Rattle.gate_model.proofs.Award.{Holds, award_within, award_sound}
 use Rattle.gate_model.proofs.Tables.{Unmet, decided_keeps, call_passed, not_passed, lines_passed, standing_passed, prices_passed}
-use Rattle.gate_model.proofs.Standing.{tested_keeps, open_ahead, other_account, stands_too_within, submitted_sound, submitted_within, converting_sound}
+use Rattle.gate_model.proofs.Standing.{tested_keeps, open_ahead, stands_too_within, submitted_sound, submitted_within, converting_sound}
 use Rattle.gate_model.specs.declared.right.Right.{Right}
 use Rattle.gate_model.specs.declared.phase.Phase.{Phase}
 use Rattle.gate_model.specs.declared.phase.Phase.TheVariants.{Idle, Open, Closed}
@@ -29,27 +29,21 @@ use Rattle.hours.specs.Periods.{lawful_period}
 
 -- an account changes in anything but its standing sum
 account_sound : (s : State) (c : ℕ) (change : Account → Account) → ((a : Account) → (change a).standing ≡ a.standing) → Sound s → Sound (with_account s c change)
-account_sound s c change f h = record {
-  sums = λ d. elim (eqb c d) as (λ b. (cond b (change (s.accounts d)) (s.accounts d)).standing ≡ required d s.items) [ true ↦ f (s.accounts d) ∙ h.sums d | false ↦ h.sums d ];
-  backed = h.backed;
-  covered = h.covered;
-  priced = h.priced;
-  window = h.window;
-}
+account_sound s c change f h = grind (arith, ints, nat_tests)
 
 -- Idle
 idle_items : (o : ℕ) (items : List Item) (phase : Phase) → is_idle phase ≡ true → WindowSound o items phase → items ≡ []
 idle_items o items Idle e h = h
-idle_items o items (Open n p) e h = absurd (false≢true e)
-idle_items o items (Closed n p) e h = absurd (false≢true e)
+idle_items o items (Open w) e h = absurd (false≢true e)
+idle_items o items (Closed w) e h = absurd (false≢true e)
 
 idle_window : (o : ℕ) (items : List Item) (phase : Phase) → is_idle phase ≡ true → items ≡ [] → WindowSound o items phase
 idle_window o items Idle e h = h
-idle_window o items (Open n p) e h = absurd (false≢true e)
-idle_window o items (Closed n p) e h = absurd (false≢true e)
+idle_window o items (Open w) e h = absurd (false≢true e)
+idle_window o items (Closed w) e h = absurd (false≢true e)
 
 none_covered : (items : List Item) (rights : List Right) (k : ℕ) → items ≡ [] → committed k items ≤ℤ pos (right_at k rights).megawatts
-none_covered items rights k e = subst (λ xs. committed k xs ≤ℤ pos (right_at k rights).megawatts) (sym e) (omega (arith, ints))
+none_covered items rights k e = grind (arith, ints, nat_tests, common_steps)
 
 none_backed : (p : Prices) (o : ℕ) (rights : List Right) (items : List Item) → items ≡ [] → AllByRecursion (Backed p o rights) items
 none_backed p o rights items e = subst (AllByRecursion (Backed p o rights)) (sym e) tt
@@ -77,10 +71,7 @@ rebooked_sound s p i t h =
     }
 
 ended_sound : (s : State) → Sound s → Sound (ended s)
-ended_sound s h = record { sums = λ c. refl; backed = tt; covered = λ k. omega (arith, ints); priced = h.priced; window = refl }
-
-pub committed_above : (n : ℕ) (items : List Item) → pos 0 ≤ℤ committed n items
-committed_above n items = sum_above (λ i. commits_body n i.body) (λ i. commits_above n i.body) items
+ended_sound s h = grind (arith, ints, nat_tests)
 
 required_above : (p : Prices) (o d : ℕ) (rights : List Right) (items : List Item) → AllByRecursion (Backed p o rights) items → pos 0 ≤ℤ required d items
 required_above p o d rights [] h = omega (arith, ints)
@@ -93,10 +84,8 @@ required_above p o d rights (i ∷ is) h =
 ended_within : (s : State) (d : ℕ) → Sound s → Within s d → Within (ended s) d
 ended_within s d h k =
     let r = required_above s.prices s.month d s.rights s.items h.backed in
-    let e = h.sums d in
     let u = unsettled s.month (s.accounts d) in
-    let v = values s.month d s.rights in
-    lowered ((u -ℤ v) +ℤ (s.accounts d).standing) ((u -ℤ v) +ℤ pos 0) (charges (s.accounts d)) (120 * (s.accounts d).security) (omega (arith, ints)) k
+    grind (arith, ints, nat_tests)
 
 -- the tests of a transfer
 pub record Passed (s : State) (seller buyer k q : ℕ) : Type 0 where
@@ -109,18 +98,16 @@ pub record Passed (s : State) (seller buyer k q : ℕ) : Type 0 where
 pub transfer_passed : (s : State) (seller buyer k q : ℕ) → AllByRecursion Unmet (grounds s (transfer seller buyer k q)) → Passed s seller buyer k q
 transfer_passed s seller buyer k q g =
     let g6 = not_passed _ g.1.0 in
-    let g7 = and_parts (any (right_numbered k) s.rights) _ (not_passed _ g.1.1.0) in
     let g8 = and_parts (leb s.month (right_at k s.rights).key.slot.period.first) _ (not_passed _ g.1.1.1.0) in
-    let u = g8.1 in
     let g12 = lines_passed (λ c. above (transferred s buyer k q) c) 1 (seller ∷ buyer ∷ []) g.1.1.1.1.1.0 in
-    record { own = eqb-true _ _ g7.1; known = g7.0; some = leb-true _ _ (and_parts (leb 1 q) _ g6).0; free = omega (arith, ints); tested = (g12.0, g12.1.0) }
+    grind (arith, ints, nat_tests)
 
 transferred_sound : (s : State) (seller buyer k q : ℕ) → Passed s seller buyer k q → Sound s → Sound (transferred s buyer k q)
 transferred_sound s seller buyer k q t h =
     let m = rights_less s.prices s.month s.rights s.items k q (standing_of s h) t.free in
     let r = all_first (RightPriced s.prices) (right_numbered k) no_right s.rights t.known h.priced in
     let n = rights_more s.prices s.month (lessened k q s.rights) (right_for (s.given + 1) buyer (right_at k s.rights).key q (right_at k s.rights).price (pos 0) ∷ []) s.items m (r, tt) in
-    record { sums = h.sums; backed = n.backed; covered = n.covered; priced = n.priced; window = h.window }
+    grind (arith, ints, nat_tests)
 
 not_mine : (owner d : ℕ) (z : ℤ) → eqb owner d ≡ false → mine owner d z ≡ pos 0
 not_mine owner d z e = ap (λ t. cond t z (pos 0)) e
@@ -181,33 +168,13 @@ step_sound s call h = decided_keeps (λ n _. Sound n) (grounds s call) s (effect
 
 -- of another customer nothing changes
 other_within : (s : State) (c d : ℕ) (change : Account → Account) → eqb c d ≡ false → Within s d → Within (with_account s c change) d
-other_within s c d change e h = subst (λ a. Holds s.month a (values s.month d s.rights)) (sym (other_account s.accounts c d change e)) h
+other_within s c d change e h = grind (arith, ints, nat_tests)
 
 posted_within : (s : State) (c d : ℕ) (n : ℤ) → pos 1 ≤ℤ n → Within s d → Within (with_account s c (secured (cents (after_cents s c n)))) d
-posted_within s c d n l h = ⊎_elim
-    (λ e.
-    let q = ap (λ i. (s.accounts i).security) (eqb-true c d e) in
-    let a = s.accounts d in
-    let v = values s.month d s.rights in
-    let m : a.security ≤ cents (after_cents s c n) = let z = abs_is (after_cents s c n) in omega (arith, ints) in
-    let t = max0 ((unsettled s.month a -ℤ v) +ℤ a.standing) +ℤ charges a in
-    let k : Holds s.month (secured (cents (after_cents s c n)) a) v = more t a.security (cents (after_cents s c n)) m h in
-    subst (λ x. Holds s.month x v) (sym (ap (λ b. cond b (secured (cents (after_cents s c n)) a) a) e)) k)
-    (λ e. other_within s c d (secured (cents (after_cents s c n))) e h)
-    (cases_Bool (eqb c d))
-  where
-    more : (t : ℤ) (x y : ℕ) → x ≤ y → t ≤ℤ pos (120 * x) → t ≤ℤ pos (120 * y)
-    more t x y l k = omega (arith, ints)
+posted_within s c d n l h = grind (arith, ints, nat_tests)
 
 invoiced_within : (s : State) (c d : ℕ) → Within s d → Within (with_account s c (λ a. charged (a.invoiced +ℤ a.calculated) (pos 0) a)) d
-invoiced_within s c d h =
-    let a = s.accounts d in
-    let v = values s.month d s.rights in
-    elim (eqb c d) as (λ b. Holds s.month (cond b (charged (a.invoiced +ℤ a.calculated) (pos 0) a) a) v) [
-      | true ↦ let e : a.invoiced +ℤ a.calculated ≡ (a.invoiced +ℤ a.calculated) +ℤ pos 0 = omega (arith, ints) in
-          subst (λ z. (max0 ((unsettled s.month a -ℤ v) +ℤ a.standing) +ℤ max0 z) ≤ℤ pos (120 * a.security)) e h
-      | false ↦ h
-    ]
+invoiced_within s c d h = grind (arith, ints, nat_tests)
 
 effect_within : (s : State) (call : Call) (d : ℕ) → may_raise call ≡ false → Sound s → Within s d → AllByRecursion Unmet (grounds s call) → Within (effect s call).1 d
 effect_within s (posting c n) d r h k g =
@@ -236,4 +203,4 @@ pub step_within : (s : State) (call : Call) (d : ℕ) → may_raise call ≡ fal
 step_within s call d r h k = decided_keeps (λ n _. Within n d) (grounds s call) s (effect s call) k (effect_within s call d r h k)
 
 pub new_sound : (p : Prices) → Sound (new p)
-new_sound p = record { sums = λ c. refl; backed = tt; covered = λ k. omega (arith, ints); priced = tt; window = refl }
+new_sound p = grind (arith, ints, nat_tests)

@@ -1,5 +1,5 @@
 -- When a call is turned down: for each call the grounds in the order of their numbers, each with the line at which it is first met.
-use Rattle.std.specs.Prelude.{ℕ, suc, ◌+◌, ◌^◌, Bool, true, false, cond, not, ◌&&◌, ◌||◌, List, [], ◌∷◌, length, take, ℤ, pos, ◌+ℤ◌, neg_ℤ, Some, None, Ok, Err, sum_by, Result, ◌==◌, int_le, int_lt, nat_le, nat_lt, unsigned_abs}
+use Rattle.std.specs.Prelude.{ℕ, suc, ◌+◌, ◌^◌, Bool, true, false, cond, not, ◌&&◌, ◌||◌, List, [], ◌∷◌, length, take, ℤ, pos, ◌+ℤ◌, neg_ℤ, Option, Some, None, Ok, Err, sum_by, Result, ◌==◌, int_le, int_lt, nat_le, nat_lt, unsigned_abs}
 use Rattle.gate_model.specs.Sums.{sum_z}
 use Rattle.gate_model.specs.Measures.{Prices, lawful_megawatts, lawful_price, customer, same_period}
 use Rattle.gate_model.specs.Curves.{lawful_bid, lawful_offer, top, in_block}
@@ -12,54 +12,59 @@ use Rattle.hours.specs.declared.fault.Fault.{Fault}
 use Rattle.gate_model.specs.declared.conversion.Request.{Request}
 use Rattle.gate_model.specs.declared.right.Right.{Right}
 use Rattle.gate_model.specs.declared.phase.Phase.{Phase}
-use Rattle.gate_model.specs.declared.phase.Shown.{Shown}
+use Rattle.gate_model.specs.declared.phase.Window.{Window}
 use Rattle.gate_model.specs.declared.phase.Phase.TheVariants.{Idle, Open, Closed}
 use Rattle.books.specs.Keys.{lawful_path}
 use Rattle.hours.specs.Periods.{lawful_class, lawful_period}
 use Rattle.hours.specs.Bounds.{within}
 use Rattle.gate_model.specs.declared.refusal.Met.{Met}
-use Rattle.gate_model.specs.declared.refusal.Met.TheVariants.{NotMet, MetAt}
 use Rattle.gate_model.specs.declared.refusal.Ground.{Ground}
 use Rattle.gate_model.specs.declared.refusal.Ground.TheVariants.{UnknownCustomer, AmountOutOfBounds, WrongPhase, UnlawfulPeriod, LineCount, UnlawfulLine, NotTheirRight, NotFree, NoRoom, NoPrice, CostTooLarge, AboveSecurity, UnlawfulAward}
 
+abbrev pub met_at : ℕ → Met
+met_at i = record { line = i; fault = None }
+
 -- met by the call as a whole
-abbrev pub at_call : Bool → Met
-at_call t = cond t (MetAt 0 None) NotMet
+abbrev pub at_call : Bool → Option Met
+at_call t = cond t (Some (met_at 0)) None
 
 -- the first line that meets the test; i is the number of the line
-abbrev pub at_line : {X : Type 0} → (ℕ → X → Bool) → ℕ → List X → Met
-at_line test i [] = NotMet
-at_line test i (l ∷ ls) = cond (test i l) (MetAt i None) (at_line test (suc i) ls)
+abbrev pub at_line : {X : Type 0} → (ℕ → X → Bool) → ℕ → List X → Option Met
+at_line test i [] = None
+at_line test i (l ∷ ls) = cond (test i l) (Some (met_at i)) (at_line test (suc i) ls)
 
 -- the first line that meets the test, where the lines before it stand already in s
-abbrev pub at_standing : (State → Line → State) → (State → Line → Bool) → ℕ → State → List Line → Met
-at_standing stands test i s [] = NotMet
-at_standing stands test i s (l ∷ ls) = cond (test s l) (MetAt i None) (at_standing stands test (suc i) (stands s l) ls)
+abbrev pub at_standing : (State → Line → State) → (State → Line → Bool) → ℕ → State → List Line → Option Met
+at_standing stands test i s [] = None
+at_standing stands test i s (l ∷ ls) = cond (test s l) (Some (met_at i)) (at_standing stands test (suc i) (stands s l) ls)
 
-abbrev pub unless_priced : Result ℤ Fault → ℕ → Met → Met
+abbrev pub unless_priced : Result ℤ Fault → ℕ → Option Met → Option Met
 unless_priced (Ok r) line m = m
-unless_priced (Err f) line m = MetAt line (Some f)
+unless_priced (Err f) line m = Some (record { line = line; fault = Some f })
 
 -- the first line whose key has no price
-abbrev pub at_price : {X : Type 0} → (X → Result ℤ Fault) → (ℕ → X → ℕ) → ℕ → List X → Met
-at_price asked line_of i [] = NotMet
+abbrev pub at_price : {X : Type 0} → (X → Result ℤ Fault) → (ℕ → X → ℕ) → ℕ → List X → Option Met
+at_price asked line_of i [] = None
 at_price asked line_of i (l ∷ ls) = unless_priced (asked l) (line_of i l) (at_price asked line_of (suc i) ls)
 
 -- 3
-abbrev pub shows_open : Phase → Shown → Bool
-shows_open Idle w = false
-shows_open (Open n p) w = n == w.auction && same_period p w.period
-shows_open (Closed n p) w = false
+abbrev pub same_window : Window → Window → Bool
+same_window v w = v.auction == w.auction && same_period v.period w.period
 
-abbrev pub shows_closed : Phase → Shown → Bool
+abbrev pub shows_open : Phase → Window → Bool
+shows_open Idle w = false
+shows_open (Open v) w = same_window v w
+shows_open (Closed v) w = false
+
+abbrev pub shows_closed : Phase → Window → Bool
 shows_closed Idle w = false
-shows_closed (Open n p) w = false
-shows_closed (Closed n p) w = n == w.auction && same_period p w.period
+shows_closed (Open v) w = false
+shows_closed (Closed v) w = same_window v w
 
 abbrev pub is_idle : Phase → Bool
 is_idle Idle = true
-is_idle (Open n p) = false
-is_idle (Closed n p) = false
+is_idle (Open v) = false
+is_idle (Closed v) = false
 
 -- 5
 abbrev pub lawful_count : ℕ → Bool
@@ -145,15 +150,15 @@ abbrev pub cents : ℤ → ℕ
 cents z = unsigned_abs z
 
 -- no ground is met
-abbrev pub is_unmet : Met → Bool
-is_unmet NotMet = true
-is_unmet (MetAt line cause) = false
+abbrev pub is_unmet : Option Met → Bool
+is_unmet None = true
+is_unmet (Some met) = false
 
-abbrev pub approved : List (Ground × Met) → Bool
+abbrev pub approved : List (Ground × Option Met) → Bool
 approved [] = true
 approved (g ∷ gs) = is_unmet g.1 && approved gs
 
-abbrev pub grounds : State → Call → List (Ground × Met)
+abbrev pub grounds : State → Call → List (Ground × Option Met)
 grounds s (posting c n) =
     (UnknownCustomer, at_call (not (customer c)))
     ∷ (AmountOutOfBounds, at_call (int_lt n (pos 1) || outside (after_cents s c n)))

@@ -1,16 +1,17 @@
 //! A call as data, so that a list of calls can be played.
 use crate::conversion::Request;
 use crate::line::Line;
-use crate::phase::Shown;
+use crate::phase::Window;
 use books::Key;
 use hours::Period;
 
 /// The window that a call shows: the one that the last opening gave (or, to an award and an ending, the closed one that the
 /// last closing gave), or another.
+// no `Option`: its `None` would read as no window, where `Held` is one
 #[derive(Clone, Copy)]
 pub enum Showing {
     Held,
-    Other(Shown),
+    Other(Window),
 }
 
 /// Every call of the gate, and the two questions that a list of calls may mix in. `B` is what comes with a new book.

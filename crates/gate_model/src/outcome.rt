@@ -13,6 +13,13 @@ pub struct Totals {
     pub security: u64,
 }
 
+/// Numbers given one after the other.
+#[derive(Clone, Copy, PartialEq, Eq, Debug)]
+pub struct Numbers {
+    pub first: u32,
+    pub last: u32,
+}
+
 #[derive(Clone, Copy, PartialEq, Eq, Debug)]
 pub enum Outcome {
     /// the security after a posting or a return, in cents
@@ -24,11 +31,11 @@ pub enum Outcome {
     /// the number of the auction that is open now
     Opened(u32),
     /// the numbers of the items that stand from now on
-    Standing { first: u32, last: u32 },
+    Standing(Numbers),
     /// the number of the auction that is closed now
     ShutOf(u32),
     /// the numbers of the rights that an award or a transfer made
-    RightsMade { first: u32, last: u32 },
+    RightsMade(Numbers),
     /// the megawatts that an award on an offer sold
     SoldOf(u32),
     /// an award of zero megawatts

@@ -35,37 +35,39 @@ pub enum Ground {
     UnlawfulAward,
 }
 
-/// The ground, the line at which it was first met, or 0, and the fault where a price was missing.
+/// Where a ground is met: the line at which it was first, or 0, and the fault where a price was missing.
+// the fault stands here and not in the ground, since a table of grounds names each before it is tried
 #[derive(Clone, Copy, PartialEq, Eq, Debug)]
-pub struct Refusal {
-    pub ground: Ground,
+pub struct Met {
     pub line: u32,
     pub fault: Option<Fault>,
 }
 
-/// Whether one ground is met, and where.
+/// The ground of a refusal, and where it was met.
 #[derive(Clone, Copy, PartialEq, Eq, Debug)]
-pub enum Met {
-    NotMet,
-    MetAt { line: u32, fault: Option<Fault> },
+pub struct Refusal {
+    pub ground: Ground,
+    pub met: Met,
 }
 
-pub fn ground_number(ground: Ground) -> u8
-    ensures { result ≡ ground_number ground }
-{
-    match ground {
-        Ground::UnknownCustomer => 1,
-        Ground::AmountOutOfBounds => 2,
-        Ground::WrongPhase => 3,
-        Ground::UnlawfulPeriod => 4,
-        Ground::LineCount => 5,
-        Ground::UnlawfulLine => 6,
-        Ground::NotTheirRight => 7,
-        Ground::NotFree => 8,
-        Ground::NoRoom => 9,
-        Ground::NoPrice => 10,
-        Ground::CostTooLarge => 11,
-        Ground::AboveSecurity => 12,
-        Ground::UnlawfulAward => 13,
+impl From<Ground> for u8 {
+    ghost from_gives = { λ ground number. number ≡ ground_number ground };
+
+    fn from(ground: Ground) -> u8 {
+        match ground {
+            Ground::UnknownCustomer => 1,
+            Ground::AmountOutOfBounds => 2,
+            Ground::WrongPhase => 3,
+            Ground::UnlawfulPeriod => 4,
+            Ground::LineCount => 5,
+            Ground::UnlawfulLine => 6,
+            Ground::NotTheirRight => 7,
+            Ground::NotFree => 8,
+            Ground::NoRoom => 9,
+            Ground::NoPrice => 10,
+            Ground::CostTooLarge => 11,
+            Ground::AboveSecurity => 12,
+            Ground::UnlawfulAward => 13,
+        }
     }
 }

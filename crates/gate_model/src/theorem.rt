@@ -5,8 +5,6 @@ ghost use Rattle.gate_model.specs.Law.{Law};
 ghost use Rattle.gate_model.specs.Measures.{Prices};
 
 /// The law holds of every list of calls on every book.
-pub fn law_stands() -> u8
+pub fn law_stands()
     ensures { (p : Prices) (calls : List Call) → Law p calls }
-{
-    0
-}
+{}

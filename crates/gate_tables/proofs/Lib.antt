@@ -1,2 +1,3 @@
 pub mod MonthCosts
 pub mod Totals
+pub mod Charges

@@ -5,6 +5,4 @@ mod account;
 mod months;
 mod requirement;
 
-pub use account::{Account, charged, drawn, empty_account, month_charged, secured, unstood};
-pub use months::costed;
-pub use requirement::{charges, is_above, total, unsettled};
+pub use account::Account;

@@ -1,6 +1,5 @@
-use Rattle.std.proofs.Common.{◌≡◌, length}
-use Rattle.gate_tables.proofs.MonthCosts.{Raised}
+use Rattle.std.proofs.Common.{◌≡◌, ◌++◌, map, take, drop, ◌+ℤ◌}
 use Rattle.gate_tables.proofs.months.raise.Given as goal
 
-abbrev pub invariant-loop-month : goal.invariant-loop-month
-invariant-loop-month l = Raised l.fn.first l.month l.fn.amount l.fn.costs l.costs × (length l.costs ≡ 13)
+abbrev pub invariant-loop-cost : goal.invariant-loop-cost
+invariant-loop-cost l = l.cost-items ≡ map (λ cost. cost +ℤ l.fn.amount) (take l.cost-index l.fn.costs) ++ drop l.cost-index l.fn.costs
