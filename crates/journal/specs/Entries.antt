@@ -1,7 +1,7 @@
 -- The entries of a journal. Assumes nothing.
 use Rattle.std.specs.Prelude.{ℕ, ◌+◌, cond, List, [], ◌∷◌, ◌++◌, length, ◌==◌}
-use Rattle.text.specs.declared.pieces.Stop.TheVariants.{Line}
-use Rattle.text.specs.Pieces.{stops, split}
+use Rattle.std.specs.List.{slice_split}
+use Rattle.text.specs.Pieces.{ends_line}
 use Rattle.journal.specs.declared.entry.Entry.{Entry}
 use Rattle.journal.specs.declared.word.Word.{Word}
 use Rattle.journal.specs.Words.{words_of}
@@ -29,4 +29,4 @@ entries_from n (l ∷ ls) = one_entry n l ++ entries_from (n + 1) ls
 
 -- the entries of a text: its lines stand between line breaks, and are counted from 1
 abbrev pub entries_of : List ℕ → List Noted
-entries_of text = entries_from 1 (split (stops Line) text)
+entries_of text = entries_from 1 (slice_split ends_line text)

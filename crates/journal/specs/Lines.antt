@@ -41,14 +41,14 @@ abbrev pub count_line : List Word → Option Plain
 count_line ws =
     long 7 ws
     (obind (slot_of (drop 1 ws)) (λ slot. obind (count_of (at ws 4)) (λ recent. obind (count_of (at ws 5)) (λ distant. obind (count_of (at ws 6)) (λ ahead.
-    Some (says.Count (record { slot = slot; recent = recent; distant = distant; ahead = ahead })))))))
+    Some (says.Count (record { slot = slot; counts = record { recent = recent; distant = distant; ahead = ahead } })))))))
 
 -- mean LOCATION FIRST MONTHS CLASS YEAR MCC
 abbrev pub mean_line : List Word → Option Plain
 mean_line ws =
     long 7 ws
     (obind (byte_of (at ws 1)) (λ location. obind (slot_of (drop 2 ws)) (λ slot. obind (byte_of (at ws 5)) (λ year. obind (cents_of (at ws 6)) (λ mcc.
-    Some (says.Mean (record { location = location; slot = slot; year = year; mcc = mcc })))))))
+    Some (says.Mean (record { series = record { location = location; slot = slot; year = year }; mcc = mcc })))))))
 
 -- band LOW HIGH
 abbrev pub band_line : List Word → Option Plain
@@ -92,10 +92,10 @@ pub data Meant : Type 0 where
   numbers : List ℤ → Meant
   unreadable : Meant
 
-abbrev pub said_of : Said → Meant
-said_of (said.Plain p) = plain p
-said_of (said.Numbers v) = numbers (vec_items v)
-said_of said.Unreadable = unreadable
+abbrev pub said_of : Option Said → Meant
+said_of (Some (said.Plain p)) = plain p
+said_of (Some (said.Numbers v)) = numbers (vec_items v)
+said_of None = unreadable
 
 -- numbers N N N ..
 abbrev pub numbers_line : List Word → Option Meant

@@ -2,7 +2,7 @@
 use Rattle.std.specs.Prelude.{ℕ, List, ◌++◌, codes, decimal}
 use Rattle.std.specs.Fmt.{signed_decimal}
 use Rattle.hours.specs.declared.fault.Fault.{Fault}
-use Rattle.hours.specs.Faults.{layer_number, cause_number}
+use Rattle.hours.specs.Faults.{layer_number, cause_number, cause_location, cause_year}
 use Rattle.hours.specs.Refusals.{unlawful_number}
 use Rattle.journal.specs.declared.outcome.Ground.{Ground}
 use Rattle.journal.specs.declared.outcome.Ground.TheVariants.{UnlawfulPosting, UnlawfulAverage, UnlawfulRecords, UnlawfulBand}
@@ -30,7 +30,7 @@ refusal_words x = codes "refused " ++ (decimal (ground_number x.ground) ++ (code
 abbrev pub fault_words : Fault → List ℕ
 fault_words x =
     codes "fault "
-    ++ (decimal (layer_number x.layer) ++ (codes " " ++ (decimal (cause_number x.cause) ++ (codes " " ++ (decimal x.location ++ (codes " " ++ decimal x.year))))))
+    ++ (decimal (layer_number x.layer) ++ (codes " " ++ (decimal (cause_number x.cause) ++ (codes " " ++ (decimal (cause_location x.cause) ++ (codes " " ++ decimal (cause_year x.cause)))))))
 
 abbrev pub outcome_words : Outcome → List ℕ
 outcome_words is.Book = codes "ok book"

@@ -1,7 +1,7 @@
 -- All that is written for the calls of a journal. Assumes nothing.
-use Rattle.std.specs.Prelude.{ℕ, ◌+◌, Bool, true, false, cond, List, [], ◌∷◌, ◌++◌, codes, decimal}
-use Rattle.journal.specs.declared.closing.Kind.{Kind}
-use Rattle.journal.specs.declared.closing.Kind.TheVariants.{Taken, Refused, Unreadable}
+use Rattle.std.specs.Prelude.{ℕ, ◌+◌, Bool, true, false, count_by, List, [], ◌∷◌, ◌++◌, codes, decimal}
+use Rattle.journal.specs.declared.outcome.Kind.{Kind}
+use Rattle.journal.specs.declared.outcome.Kind.TheVariants.{Taken, Refused, Unreadable}
 use Rattle.journal.specs.declared.outcome.Outcome.{Outcome}
 use Rattle.journal.specs.declared.outcome.Outcome.TheVariants as is
 use Rattle.journal.specs.Outcomes.{outcome_words}
@@ -30,8 +30,7 @@ counts_as k o = same_kind k (kind_of o)
 
 -- how many of the outcomes are of a kind
 abbrev pub how_often : Kind → List Outcome → ℕ
-how_often k [] = 0
-how_often k (o ∷ os) = cond (counts_as k o) 1 0 + how_often k os
+how_often k os = count_by (counts_as k) os
 
 abbrev pub tally_words : ℕ → ℕ → ℕ → ℕ → List ℕ
 tally_words calls taken refused unreadable =

@@ -1,10 +1,11 @@
 -- The words of a line, and the numbers that they are. Assumes nothing.
-use Rattle.std.specs.Prelude.{ℕ, Bool, true, false, cond, List, [], ◌∷◌, ◌++◌, length, take, drop, ℤ, pos, neg_ℤ, Some, None, Ok, Err, codes, Option, Result, ◌==◌, nat_le, nat_lt, slice_index, slice_index_or}
+use Rattle.std.specs.Prelude.{ℕ, Bool, true, false, cond, List, [], ◌∷◌, ◌++◌, length, drop, ℤ, pos, neg_ℤ, Some, None, Ok, Err, codes, Option, Result, ◌≡◌, ◌==◌, nat_le, nat_lt, slice_index, slice_index_or}
+use Rattle.std.specs.List.{slice_split, before_first}
+use Rattle.std.specs.Result.{result_ok}
 use Rattle.std.specs.Str.{bytes_eq}
 use Rattle.text.specs.declared.digits.Misread.{Misread}
-use Rattle.text.specs.declared.pieces.Stop.TheVariants.{Comment, Blank}
 use Rattle.text.specs.Digits.{size_of, ranged, unsigned64}
-use Rattle.text.specs.Pieces.{stops, run, split}
+use Rattle.text.specs.Pieces.{is_blank}
 use Rattle.journal.specs.declared.word.Verb.{Verb}
 use Rattle.journal.specs.declared.word.Verb.TheVariants.{Posted, Row, Average, Count, Mean, Recorded, Numbers, Proxy, History, Band, Seat, Price}
 use Rattle.journal.specs.declared.word.Word.{Word}
@@ -58,9 +59,13 @@ abbrev pub words : List (List ℕ) → List Word
 words [] = []
 words (w ∷ ws) = one_word w ++ words ws
 
+-- the byte that starts a comment
+abbrev pub starts_comment : ℕ → Bool
+starts_comment b = b == 35
+
 -- the words of a line, before any comment
 abbrev pub words_of : List ℕ → List Word
-words_of line = words (split (stops Blank) (take (run (stops Comment) line) line))
+words_of line = words (slice_split is_blank (before_first starts_comment line))
 
 -- the word at a place, and past the end one that nothing takes
 abbrev pub at : List Word → ℕ → Word
@@ -97,3 +102,24 @@ cents_of w = around 9223372036854775808 w
 -- the numbers of recorded hours
 abbrev pub hour_of : Word → Option ℤ
 hour_of w = around 2147483648 w
+
+-- the number that a word is, where it has no minus
+abbrev pub unsigned_of : Word → Option ℕ
+unsigned_of (a_verb v) = None
+unsigned_of Semicolon = None
+unsigned_of (Number true n) = None
+unsigned_of (Number false n) = Some n
+unsigned_of Other = None
+
+-- the number that a word is, with its sign
+abbrev pub signed_of : Word → Option ℤ
+signed_of (a_verb v) = None
+signed_of Semicolon = None
+signed_of (Number true n) = Some (neg_ℤ (pos n))
+signed_of (Number false n) = Some (pos n)
+signed_of Other = None
+
+-- what a conversion makes of a number, where there is one
+abbrev pub Converted : {N A E : Type 0} → (N → Result A E → Type 0) → Option N → Option A → Type 0
+Converted gives None r = r ≡ None
+Converted {N} {A} {E} gives (Some n) r = (t : Result A E) × gives n t × (r ≡ result_ok t)

@@ -5,13 +5,12 @@ ghost use Rattle.journal.specs.Entries.{entry_of, one_entry, entries_of};
 use crate::line::{Said, said_of};
 use crate::word::words_of;
 use std::alloc::{AllocError, Global};
-use text::{Stop, run};
 
-/// What a line says, with its place among all lines of the text, from 1.
+/// What a line says, with its place among all lines of the text, from 1. A line that cannot be read says nothing.
 #[derive(Drop)]
 pub struct Entry {
     pub line: usize,
-    pub said: Said,
+    pub said: Option<Said>,
 }
 
 fn push_entry(
@@ -23,11 +22,10 @@ fn push_entry(
     ensures { OnOk result (map entry_of entries.new.items ≡ map entry_of entries.old.items ++ one_entry line bytes.now) }
 {
     let words = words_of(heap, bytes)?;
-    if words.is_empty() {
-        return Ok(());
+    if !words.is_empty() {
+        let said = said_of(heap, words.as_slice())?;
+        entries.push(Entry { line, said })?;
     }
-    let said = said_of(heap, words.as_slice())?;
-    entries.push(Entry { line, said })?;
     Ok(())
 }
 
@@ -36,15 +34,8 @@ pub fn read(heap: Global, text: &[u8]) -> Result<Vec<Entry>, AllocError>
     ensures { IfOk result (λ v. map entry_of v.items ≡ entries_of text.now) }
 {
     let mut entries = Vec::new(heap);
-    let mut rest = text;
-    let mut line: usize = 1;
-    'lines: loop {
-        let n = run(rest, Stop::Line);
-        push_entry(heap, &mut entries, line, &rest[0..n])?;
-        if n >= rest.len() {
-            return Ok(entries);
-        }
-        rest = &rest[n + 1..];
-        line += 1;
+    for (place, line) in text.split(|byte| *byte == b'\n').enumerate() {
+        push_entry(heap, &mut entries, place + 1, line)?;
     }
+    Ok(entries)
 }

@@ -1,12 +1,11 @@
 //! What the words of a line say together. Each verb has a function of its own here, and a definition beside it.
 ghost use Rattle.std.specs.Prelude.{◌≡◌, IfOk, vec_items};
 ghost use Rattle.std.specs.Option.{option_map};
-ghost use Rattle.journal.specs.Lines.{slot_of, key_of, row_line, count_line, mean_line, band_line, price_line, alone_line, plain_line, numbers_of, numbers_line, said_of, call_line, line_of};
+ghost use Rattle.journal.specs.Lines.{long, slot_of, key_of, row_line, count_line, mean_line, band_line, price_line, alone_line, plain_line, numbers_of, said_of, line_of};
 
-use crate::number::{at, behind, byte_at, cents_at, count_at, hour};
 use crate::word::{Verb, Word};
 use books::{Key, Path, Row};
-use hours::{CountRow, MeanRow, Period, Slot};
+use hours::{CountRow, Counts, MeanRow, Period, Series, Slot};
 use std::alloc::{AllocError, Global};
 
 /// The limits of a band, lawful or not.
@@ -22,7 +21,7 @@ pub enum Plain {
     Posted,
     Row(Row),
     Average,
-    Count(CountRow),
+    Count(CountRow<u32>),
     Mean(MeanRow),
     Recorded,
     Proxy,
@@ -36,105 +35,112 @@ pub enum Plain {
 pub enum Said {
     Plain(Plain),
     Numbers(Vec<i32>),
-    Unreadable,
 }
 
 /// `FIRST MONTHS CLASS`.
 fn read_slot(words: &[Word]) -> Option<Slot>
-    ensures { result ≡ slot_of words.now }
+    ensures { result ≡ long 3 words.now (slot_of words.now) }
 {
-    let first = byte_at(words, 0)?;
-    let months = byte_at(words, 1)?;
-    let class = byte_at(words, 2)?;
-    let period = Period { first, months };
+    let [first, months, class] = words else {
+        return None;
+    };
+    let period = Period {
+        first: first.unsigned()?,
+        months: months.unsigned()?,
+    };
+    let class = class.unsigned()?;
     Some(Slot { period, class })
 }
 
 /// `SOURCE SINK FIRST MONTHS CLASS`.
 fn read_key(words: &[Word]) -> Option<Key>
-    ensures { result ≡ key_of words.now }
+    ensures { result ≡ long 5 words.now (key_of words.now) }
 {
-    let source = byte_at(words, 0)?;
-    let sink = byte_at(words, 1)?;
-    let slot = read_slot(behind(words, 2))?;
-    let path = Path { source, sink };
+    let [source, sink, slot @ ..] = words else {
+        return None;
+    };
+    let path = Path {
+        source: source.unsigned()?,
+        sink: sink.unsigned()?,
+    };
+    let slot = read_slot(slot)?;
     Some(Key { path, slot })
 }
 
 fn read_row(words: &[Word]) -> Option<Plain>
     ensures { result ≡ row_line words.now }
 {
-    if words.len() != 7 {
+    let [_, key @ .., price] = words else {
         return None;
-    }
-    let key = read_key(behind(words, 1))?;
-    let price = cents_at(words, 6)?;
+    };
+    let key = read_key(key)?;
+    let price = price.signed()?;
     Some(Plain::Row(Row { key, price }))
 }
 
 fn read_count(words: &[Word]) -> Option<Plain>
     ensures { result ≡ count_line words.now }
 {
-    if words.len() != 7 {
+    let [_, slot @ .., recent, distant, ahead] = words else {
         return None;
-    }
-    let slot = read_slot(behind(words, 1))?;
-    let recent = count_at(words, 4)?;
-    let distant = count_at(words, 5)?;
-    let ahead = count_at(words, 6)?;
+    };
     Some(Plain::Count(CountRow {
-        slot,
-        recent,
-        distant,
-        ahead,
+        slot: read_slot(slot)?,
+        counts: Counts {
+            recent: recent.unsigned()?,
+            distant: distant.unsigned()?,
+            ahead: ahead.unsigned()?,
+        },
     }))
 }
 
 fn read_mean(words: &[Word]) -> Option<Plain>
     ensures { result ≡ mean_line words.now }
 {
-    if words.len() != 7 {
+    let [_, location, slot @ .., year, mcc] = words else {
         return None;
-    }
-    let location = byte_at(words, 1)?;
-    let slot = read_slot(behind(words, 2))?;
-    let year = byte_at(words, 5)?;
-    let mcc = cents_at(words, 6)?;
+    };
     Some(Plain::Mean(MeanRow {
-        location,
-        slot,
-        year,
-        mcc,
+        series: Series {
+            location: location.unsigned()?,
+            slot: read_slot(slot)?,
+            year: year.unsigned()?,
+        },
+        mcc: mcc.signed()?,
     }))
 }
 
 fn read_band(words: &[Word]) -> Option<Plain>
     ensures { result ≡ band_line words.now }
 {
-    if words.len() != 3 {
+    let [_, low, high] = words else {
         return None;
-    }
-    let low = cents_at(words, 1)?;
-    let high = cents_at(words, 2)?;
-    Some(Plain::Band(Limits { low, high }))
+    };
+    Some(Plain::Band(Limits {
+        low: low.signed()?,
+        high: high.signed()?,
+    }))
 }
 
 fn read_price(words: &[Word]) -> Option<Plain>
     ensures { result ≡ price_line words.now }
 {
-    if words.len() != 6 {
+    let [_, key @ ..] = words else {
         return None;
-    }
-    let key = read_key(behind(words, 1))?;
-    Some(Plain::Price(key))
+    };
+    read_key(key).map(Plain::Price)
 }
 
 fn alone(words: &[Word], plain: Plain) -> Option<Plain>
     ensures { result ≡ alone_line words.now plain }
 {
-    if words.len() == 1 { Some(plain) } else { None }
+    match words {
+        [_] => Some(plain),
+        _ => None,
+    }
 }
 
+// A match, and no table of functions: that would name each verb twice.
 fn read_plain(verb: Verb, words: &[Word]) -> Option<Plain>
     ensures { result ≡ plain_line verb words.now }
 {
@@ -154,13 +160,13 @@ fn read_plain(verb: Verb, words: &[Word]) -> Option<Plain>
     }
 }
 
-/// All words as numbers, or none of them.
+/// All words as numbers, or none of them. No numbers is an answer here, and only want of memory an error.
 fn numbers_of(heap: Global, words: &[Word]) -> Result<Option<Vec<i32>>, AllocError>
     ensures { IfOk result (λ o. option_map vec_items o ≡ numbers_of words.now) }
 {
     let mut numbers = Vec::new(heap);
-    for i in 0..words.len() {
-        let Some(number) = hour(words[i]) else {
+    for word in words {
+        let Some(number) = word.signed() else {
             return Ok(None);
         };
         numbers.push(number)?;
@@ -168,36 +174,15 @@ fn numbers_of(heap: Global, words: &[Word]) -> Result<Option<Vec<i32>>, AllocErr
     Ok(Some(numbers))
 }
 
-fn read_numbers(heap: Global, words: &[Word]) -> Result<Option<Said>, AllocError>
-    ensures { IfOk result (λ o. option_map said_of o ≡ numbers_line words.now) }
-{
-    let Some(numbers) = numbers_of(heap, behind(words, 1))? else {
-        return Ok(None);
-    };
-    Ok(Some(Said::Numbers(numbers)))
-}
-
-fn read_call(heap: Global, words: &[Word]) -> Result<Option<Said>, AllocError>
-    ensures { IfOk result (λ o. option_map said_of o ≡ call_line words.now) }
-{
-    let Word::Verb(verb) = at(words, 0) else {
-        return Ok(None);
-    };
-    if let Verb::Numbers = verb {
-        return read_numbers(heap, words);
-    }
-    match read_plain(verb, words) {
-        Some(plain) => Ok(Some(Said::Plain(plain))),
-        None => Ok(None),
-    }
-}
-
-/// What a line says that has words.
-pub fn said_of(heap: Global, words: &[Word]) -> Result<Said, AllocError>
+/// What a line says that has words, or nothing where they cannot be read, which is no error of memory.
+pub fn said_of(heap: Global, words: &[Word]) -> Result<Option<Said>, AllocError>
     ensures { IfOk result (λ s. said_of s ≡ line_of words.now) }
 {
-    match read_call(heap, words)? {
-        Some(said) => Ok(said),
-        None => Ok(Said::Unreadable),
+    match words {
+        [Word::Verb(Verb::Numbers), numbers @ ..] => {
+            Ok(numbers_of(heap, numbers)?.map(Said::Numbers))
+        }
+        [Word::Verb(verb), ..] => Ok(read_plain(*verb, words).map(Said::Plain)),
+        _ => Ok(None),
     }
 }

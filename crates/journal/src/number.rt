@@ -1,110 +1,41 @@
-//! The numbers of a line by their places. What is not there is no number.
-ghost use Rattle.std.specs.Prelude.{◌≡◌, ◌-◌, length, drop};
-ghost use Rattle.journal.specs.Words.{at as at_of, byte_of, count_of, cents_of, hour_of};
+//! The numbers that words are. A word that is no number, or none that its place can have, is nothing.
+ghost use Rattle.std.specs.Prelude.{◌≡◌};
+ghost use Rattle.journal.specs.Words.{unsigned_of, signed_of, Converted};
 
 use crate::word::Word;
+use std::num::TryFromIntError;
 
-/// A number from 0 to 255.
-fn byte(word: Word) -> Option<u8>
-    ensures { result ≡ byte_of word }
-{
-    match word {
-        Word::Number { minus: false, size } if size <= 255 => Some(size as u8),
-        _ => None,
-    }
-}
-
-/// A number from 0 to 4294967295.
-fn count(word: Word) -> Option<u32>
-    ensures { result ≡ count_of word }
-{
-    match word {
-        Word::Number { minus: false, size } if size <= 4_294_967_295 => Some(size as u32),
-        _ => None,
-    }
-}
-
-/// Any signed number of 64 bits. The least has no opposite, so it is taken by itself.
-fn cents(word: Word) -> Option<i64>
-    ensures { result ≡ cents_of word }
-{
-    match word {
-        Word::Number { minus, size } => {
-            if minus {
-                if size == 9_223_372_036_854_775_808 {
-                    return Some(i64::MIN);
-                }
-                if size < 9_223_372_036_854_775_808 {
-                    return Some(-(size as i64));
-                }
-                return None;
-            }
-            if size < 9_223_372_036_854_775_808 {
-                return Some(size as i64);
-            }
-            None
+impl Word {
+    fn size(self) -> Option<u64>
+        ensures { result ≡ unsigned_of self }
+    {
+        match self {
+            Word::Number { minus: false, size } => Some(size),
+            _ => None,
         }
-        _ => None,
     }
-}
 
-/// Any signed number of 32 bits.
-pub fn hour(word: Word) -> Option<i32>
-    ensures { result ≡ hour_of word }
-{
-    match word {
-        Word::Number { minus, size } => {
-            if minus {
-                if size == 2_147_483_648 {
-                    return Some(i32::MIN);
-                }
-                if size < 2_147_483_648 {
-                    return Some(-(size as i32));
-                }
-                return None;
-            }
-            if size < 2_147_483_648 {
-                return Some(size as i32);
-            }
-            None
+    fn number(self) -> Option<i128>
+        ensures { result ≡ signed_of self }
+    {
+        match self {
+            Word::Number { minus: true, size } => Some(-i128::from(size)),
+            Word::Number { minus: false, size } => Some(i128::from(size)),
+            _ => None,
         }
-        _ => None,
     }
-}
 
-/// The word at a place, and past the end one that nothing takes.
-pub fn at(words: &[Word], i: usize) -> Word
-    ensures { result ≡ at_of words.now i }
-{
-    if i < words.len() {
-        words[i]
-    } else {
-        Word::Other
+    /// The number that a word is, where it has no minus and its type holds it.
+    pub fn unsigned<T: TryFrom<u64, Error = TryFromIntError>>(self) -> Option<T>
+        ensures { Converted T.try_from_gives (unsigned_of self) result }
+    {
+        T::try_from(self.size()?).ok()
     }
-}
 
-pub fn byte_at(words: &[Word], i: usize) -> Option<u8>
-    ensures { result ≡ byte_of (at_of words.now i) }
-{
-    byte(at(words, i))
-}
-
-pub fn count_at(words: &[Word], i: usize) -> Option<u32>
-    ensures { result ≡ count_of (at_of words.now i) }
-{
-    count(at(words, i))
-}
-
-pub fn cents_at(words: &[Word], i: usize) -> Option<i64>
-    ensures { result ≡ cents_of (at_of words.now i) }
-{
-    cents(at(words, i))
-}
-
-/// The words from a place on.
-pub fn behind(words: &[Word], n: usize) -> &[Word]
-    ensures value { result.now ≡ drop n words.now }
-    ensures len { length result.now ≡ length words.now - n }
-{
-    if n < words.len() { &words[n..] } else { &[] }
+    /// The number that a word is, with its sign, where its type holds it.
+    pub fn signed<T: TryFrom<i128, Error = TryFromIntError>>(self) -> Option<T>
+        ensures { Converted T.try_from_gives (signed_of self) result }
+    {
+        T::try_from(self.number()?).ok()
+    }
 }

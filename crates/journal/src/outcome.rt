@@ -1,9 +1,9 @@
 //! What comes of a call, and the line that is written for it.
-ghost use Rattle.std.specs.Prelude.{◌≡◌, ◌++◌, IfOk, Some, string_bytes, codes};
-ghost use Rattle.journal.specs.Outcomes.{ground_number, ground_words, refusal_words, fault_words, outcome_words};
+ghost use Rattle.std.specs.Prelude.{◌≡◌, Some};
+ghost use Rattle.journal.specs.Outcomes.{ground_number, ground_words, refusal_words, outcome_words};
+ghost use Rattle.journal.specs.Report.{kind_of, counts_as};
 
-use hours::{Fault, cause_number, layer_number};
-use std::alloc::{AllocError, Global};
+use hours::Fault;
 use std::fmt;
 
 /// Why a call is refused.
@@ -15,7 +15,7 @@ pub enum Ground {
     UnlawfulBand,
 }
 
-/// The line is the first entry or row at fault, counted from 1, and 0 where none is.
+/// The line is the first entry or row at fault, counted from 1, and 0 where none is: the rules give every refusal a line.
 #[derive(Clone, Copy, Drop)]
 pub struct Refusal {
     pub ground: Ground,
@@ -31,32 +31,68 @@ pub enum Outcome {
     Unreadable(usize),
 }
 
-fn number(ground: Ground) -> u8
-    ensures { result ≡ ground_number ground }
-{
-    match ground {
-        Ground::UnlawfulPosting
-        | Ground::UnlawfulAverage
-        | Ground::UnlawfulRecords
-        | Ground::UnlawfulBand => 14,
+/// How an outcome is counted. A question that was answered is taken, be the answer a price or a fault.
+#[derive(Clone, Copy, Drop, PartialEq, Eq)]
+pub(crate) enum Kind {
+    Taken,
+    Refused,
+    Unreadable,
+}
+
+impl Outcome {
+    fn kind(&self) -> Kind
+        ensures { result ≡ kind_of self.now }
+    {
+        match self {
+            Outcome::Book | Outcome::Price(_) | Outcome::Fault(_) => Kind::Taken,
+            Outcome::Refused(_) => Kind::Refused,
+            Outcome::Unreadable(_) => Kind::Unreadable,
+        }
+    }
+
+    pub(crate) fn is(&self, kind: Kind) -> bool
+        ensures { result ≡ counts_as kind self.now }
+    {
+        self.kind() == kind
     }
 }
 
-fn reason(ground: Ground) -> &'static str
-    ensures { result.now ≡ ground_words ground }
-{
-    match ground {
-        Ground::UnlawfulPosting => {
-            "a posted row is unlawful or listed twice, or there are too many rows"
+/// The number of a refusal. Calls that this journal has are refused for unlawful values alone.
+impl From<Ground> for u8 {
+    ghost from_gives = { λ x n. n ≡ ground_number x };
+
+    fn from(ground: Ground) -> u8 {
+        match ground {
+            Ground::UnlawfulPosting
+            | Ground::UnlawfulAverage
+            | Ground::UnlawfulRecords
+            | Ground::UnlawfulBand => 14,
         }
-        Ground::UnlawfulAverage => {
-            "a count or a mean of the average hours is unlawful or listed twice, or there are too many"
+    }
+}
+
+impl fmt::Display for Ground {
+    ghost output = { λ x. Some (ground_words x) };
+
+    fn fmt<W: fmt::Write>(&self, f: &mut fmt::Formatter<W>) -> fmt::Result {
+        match self {
+            Ground::UnlawfulPosting => write!(
+                f,
+                "a posted row is unlawful or listed twice, or there are too many rows"
+            ),
+            Ground::UnlawfulAverage => write!(
+                f,
+                "a count or a mean of the average hours is unlawful or listed twice, or there are too many"
+            ),
+            Ground::UnlawfulRecords => write!(
+                f,
+                "an entry of the recorded hours is cut short, unlawful or listed twice, or the numbers as a whole are"
+            ),
+            Ground::UnlawfulBand => write!(
+                f,
+                "a limit of a band is unlawful, or the low one is above the high one"
+            ),
         }
-        Ground::UnlawfulRecords => {
-            "an entry of the recorded hours is cut short, unlawful or listed twice, or the numbers as a whole are"
-        }
-        Ground::UnlawfulBand =>
-            "a limit of a band is unlawful, or the low one is above the high one",
     }
 }
 
@@ -64,28 +100,9 @@ impl fmt::Display for Refusal {
     ghost output = { λ x. Some (refusal_words x) };
 
     fn fmt<W: fmt::Write>(&self, f: &mut fmt::Formatter<W>) -> fmt::Result {
-        let number = number(self.ground);
-        let line = self.line;
-        let reason = reason(self.ground);
-        write!(f, "refused {number} line {line}: {reason}")
-    }
-}
-
-/// A fault by its numbers.
-#[derive(Clone, Copy)]
-struct Shown {
-    fault: Fault,
-}
-
-impl fmt::Display for Shown {
-    ghost output = { λ x. Some (fault_words x.fault) };
-
-    fn fmt<W: fmt::Write>(&self, f: &mut fmt::Formatter<W>) -> fmt::Result {
-        let layer = layer_number(self.fault.layer);
-        let cause = cause_number(self.fault.cause);
-        let location = self.fault.location;
-        let year = self.fault.year;
-        write!(f, "fault {layer} {cause} {location} {year}")
+        let Refusal { ground, line } = *self;
+        let number = u8::from(ground);
+        write!(f, "refused {number} line {line}: {ground}")
     }
 }
 
@@ -97,17 +114,14 @@ impl fmt::Display for Outcome {
             Outcome::Book => write!(f, "ok book"),
             Outcome::Price(price) => write!(f, "price {price}"),
             Outcome::Fault(fault) => {
-                let shown = Shown { fault: *fault };
-                write!(f, "{shown}")
+                let layer = u8::from(fault.layer);
+                let cause = u8::from(fault.cause);
+                let location = fault.cause.location();
+                let year = fault.cause.year();
+                write!(f, "fault {layer} {cause} {location} {year}")
             }
             Outcome::Refused(refusal) => write!(f, "{refusal}"),
             Outcome::Unreadable(line) => write!(f, "unreadable {line}"),
         }
     }
-}
-
-pub fn outcome_line(heap: Global, outcome: &Outcome) -> Result<String, AllocError>
-    ensures { IfOk result (λ s. string_bytes s ≡ outcome_words outcome.now ++ codes "\n") }
-{
-    format!(in heap; "{outcome}\n")
 }

@@ -1,7 +1,7 @@
 -- The lines that the program writes, without their ends. Assumes nothing.
 use Rattle.std.specs.Prelude.{ℕ, Bool, cond, List, ◌++◌, codes, decimal, ◌==◌}
 use Rattle.hours.specs.declared.period.Slot.{Slot}
-use Rattle.hours.specs.declared.recorded.entry.Counts.{Counts}
+use Rattle.hours.specs.declared.counts.Counts.{Counts}
 use Rattle.hours.specs.Refusals.{unlawful_number}
 use Rattle.text.specs.declared.digits.Misread.{Misread}
 use Rattle.text.specs.declared.digits.Misread.TheVariants.{NoNumber, BeyondRange}
@@ -32,7 +32,7 @@ abbrev pub class_word : ℕ → List ℕ
 class_word class = cond (class == 0) (codes "on-peak") (codes "off-peak")
 
 -- a listed period and class with its hour counts
-abbrev pub slot_line : Slot → Counts → List ℕ
+abbrev pub slot_line : Slot → Counts ℕ → List ℕ
 slot_line s c =
     codes "first month "
     ++ (decimal s.period.first

@@ -1,7 +1,7 @@
 -- All that the program writes for a file. Assumes nothing.
 use Rattle.std.specs.Prelude.{ℕ, zero, suc, ◌+◌, Bool, cond, ◌||◌, List, [], ◌++◌, ℤ, is_some, Some, None, Ok, Err, codes, Option, Result}
 use Rattle.hours.specs.declared.period.Slot.{Slot}
-use Rattle.hours.specs.declared.recorded.entry.Counts.{Counts}
+use Rattle.hours.specs.declared.counts.Counts.{Counts}
 use Rattle.hours.specs.RecordedFormat.{Records, records, counts_in, prices_in}
 use Rattle.text.specs.declared.words.BadWord.{BadWord}
 use Rattle.text.specs.Words.{words_of, numbers_of}
@@ -24,7 +24,7 @@ abbrev pub locations_shown : Records → Slot → List ℕ
 locations_shown r slot = in_order (location_shown r slot) 64 0
 
 -- a period and class that is listed has a line, with its locations below
-abbrev pub slot_by : Records → Slot → Option Counts → List ℕ
+abbrev pub slot_by : Records → Slot → Option (Counts ℕ) → List ℕ
 slot_by r slot None = []
 slot_by r slot (Some counts) = (slot_line slot counts ++ codes "\n") ++ locations_shown r slot
 

@@ -2,10 +2,11 @@
 ghost use Rattle.std.specs.Prelude.{◌≡◌, Some};
 ghost use Rattle.tcr_hours.specs.Lines.{fault_words, unreadable_line, ground_words, refused_line, class_word, slot_line, there_word, location_line};
 
-use hours::{Counts, ON_PEAK, Slot, Unlawful};
+use hours::{Counts, ON_PEAK, Period, Slot, Unlawful};
 use std::fmt;
 use text::{BadWord, Misread};
 
+// Here and below, words that are this program's own: their types print otherwise elsewhere, or are a number or a `bool`.
 fn fault_words(fault: Misread) -> &'static str
     ensures { result.now ≡ fault_words fault }
 {
@@ -17,72 +18,52 @@ fn fault_words(fault: Misread) -> &'static str
 
 /// A word of the file that cannot be read.
 #[derive(Clone, Copy, Drop)]
-pub struct Unreadable {
-    pub bad: BadWord,
-}
+pub struct Unreadable(pub BadWord);
 
 impl fmt::Display for Unreadable {
-    ghost output = { λ x. Some (unreadable_line x.bad) };
+    ghost output = { λ x. Some (unreadable_line x.0) };
 
     fn fmt<W: fmt::Write>(&self, f: &mut fmt::Formatter<W>) -> fmt::Result {
-        let bad = self.bad;
-        let line = bad.line;
-        let column = bad.column;
-        let fault = fault_words(bad.fault);
+        let BadWord {
+            line,
+            column,
+            fault,
+        } = self.0;
+        let fault = fault_words(fault);
         write!(f, "unreadable: line {line}, column {column}: {fault}")
     }
 }
 
-/// Why numbers are refused: as a whole, where the line is 0, or for one entry.
+/// Numbers that are no lawful recorded hours: as a whole, where the line is 0, or for one entry.
 #[derive(Clone, Copy, Drop)]
-struct Ground {
-    line: u32,
-}
-
-impl fmt::Display for Ground {
-    ghost output = { λ x. Some (ground_words x.line) };
-
-    fn fmt<W: fmt::Write>(&self, f: &mut fmt::Formatter<W>) -> fmt::Result {
-        let line = self.line;
-        if line == 0 {
-            write!(
-                f,
-                "the file as a whole has more than 1,000,000 numbers, a section without a count or with a negative one, or numbers left over"
-            )
-        } else {
-            write!(
-                f,
-                "entry {line}, counted through both sections, is cut short, out of range, listed twice, or has another hour count than its period"
-            )
-        }
-    }
-}
-
-/// Numbers that are no lawful recorded hours.
-#[derive(Clone, Copy, Drop)]
-pub struct Refused {
-    pub unlawful: Unlawful,
-}
+pub struct Refused(pub Unlawful);
 
 impl fmt::Display for Refused {
-    ghost output = { λ x. Some (refused_line x.unlawful.line) };
+    ghost output = { λ x. Some (refused_line x.0.line) };
 
     fn fmt<W: fmt::Write>(&self, f: &mut fmt::Formatter<W>) -> fmt::Result {
-        let unlawful = self.unlawful;
-        let number = unlawful.number();
-        let line = unlawful.line;
-        let ground = Ground { line };
-        write!(f, "refused {number} line {line}: {ground}")
+        let number = self.0.number();
+        let line = self.0.line;
+        write!(f, "refused {number} line {line}: ")?;
+        match line {
+            0 => write!(
+                f,
+                "the file as a whole has more than 1,000,000 numbers, a section without a count or with a negative one, or numbers left over"
+            ),
+            _ => write!(
+                f,
+                "entry {line}, counted through both sections, is cut short, out of range, listed twice, or has another hour count than its period"
+            ),
+        }
     }
 }
 
 fn class_word(class: u8) -> &'static str
     ensures { result.now ≡ class_word class }
 {
-    if class == ON_PEAK {
-        "on-peak"
-    } else {
-        "off-peak"
+    match class {
+        ON_PEAK => "on-peak",
+        _ => "off-peak",
     }
 }
 
@@ -90,21 +71,20 @@ fn class_word(class: u8) -> &'static str
 #[derive(Clone, Copy, Drop)]
 pub struct SlotLine {
     pub slot: Slot,
-    pub counts: Counts,
+    pub counts: Counts<u16>,
 }
 
 impl fmt::Display for SlotLine {
     ghost output = { λ x. Some (slot_line x.slot x.counts) };
 
     fn fmt<W: fmt::Write>(&self, f: &mut fmt::Formatter<W>) -> fmt::Result {
-        let slot = self.slot;
-        let first = slot.period.first;
-        let months = slot.period.months;
-        let class = class_word(slot.class);
-        let counts = self.counts;
-        let recent = counts.recent;
-        let distant = counts.distant;
-        let ahead = counts.ahead;
+        let Period { first, months } = self.slot.period;
+        let class = class_word(self.slot.class);
+        let Counts {
+            recent,
+            distant,
+            ahead,
+        } = self.counts;
         write!(
             f,
             "first month {first}, months {months}, {class}: recent {recent}, distant {distant}, ahead {ahead}"

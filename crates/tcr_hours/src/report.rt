@@ -7,6 +7,7 @@ use crate::lines::{Refused, Unreadable};
 use crate::listing::listing;
 use hours::{Recorded, check_recorded};
 use std::alloc::{AllocError, Global};
+use text::Unread;
 
 fn verdict(heap: Global, numbers: Vec<i32>) -> Result<String, AllocError>
     ensures { IfOk result (λ s. string_bytes s ≡ verdict_of (records numbers.items)) }
@@ -14,7 +15,7 @@ fn verdict(heap: Global, numbers: Vec<i32>) -> Result<String, AllocError>
     match check_recorded(numbers.as_slice()) {
         Ok(()) => listing(heap, &Recorded::new(numbers)),
         Err(unlawful) => {
-            let shown = Refused { unlawful };
+            let shown = Refused(unlawful);
             format!(in heap; "{shown}\n")
         }
     }
@@ -24,11 +25,12 @@ fn verdict(heap: Global, numbers: Vec<i32>) -> Result<String, AllocError>
 pub fn report_of(heap: Global, bytes: &[u8]) -> Result<String, AllocError>
     ensures { IfOk result (λ s. string_bytes s ≡ report_of bytes.now) }
 {
-    match text::numbers(heap, bytes)? {
+    match text::numbers(heap, bytes) {
         Ok(numbers) => verdict(heap, numbers),
-        Err(bad) => {
-            let shown = Unreadable { bad };
+        Err(Unread::Word(bad)) => {
+            let shown = Unreadable(bad);
             format!(in heap; "{shown}\n")
         }
+        Err(Unread::Memory(error)) => Err(error),
     }
 }

@@ -2,10 +2,9 @@
 use Rattle.std.proofs.Common.{◌≡◌, ℕ, suc, ◌+◌, ◌-◌, Bool, true, false, cond, List, [], ◌∷◌, ◌++◌, length, get_or, take, drop, sym, refl, ap, ◌∙◌, subst, append_assoc, arith}
 use Rattle.std.proofs.ByRecursion.{All-append, All-weaker}
 use Rattle.std.proofs.lemmas.List.{drop_at, get_or_at, length_push}
-use Rattle.std.specs.List.{AllByRecursion}
-use Rattle.text.specs.declared.pieces.Stop.TheVariants.{Line, Blank}
+use Rattle.std.specs.List.{slice_split, onto_first, AllByRecursion}
 use Rattle.text.specs.Laws.{StandsIn, WordsStand}
-use Rattle.text.specs.Pieces.{stops, split, onto}
+use Rattle.text.specs.Pieces.{ends_line, is_blank}
 use Rattle.text.specs.Words.{Word, word_at, words_from, line_words, lines_words}
 
 -- a word of the line with this number, which stands there
@@ -17,17 +16,17 @@ abbrev FirstIs : List ℕ → List (List ℕ) → Type 0
 FirstIs xs [] = Unit {0}
 FirstIs xs (l ∷ ls) = take (length l) xs ≡ l
 
-first_onto : (x : ℕ) (xs : List ℕ) (ls : List (List ℕ)) → FirstIs xs ls → FirstIs (x ∷ xs) (onto x ls)
+first_onto : (x : ℕ) (xs : List ℕ) (ls : List (List ℕ)) → FirstIs xs ls → FirstIs (x ∷ xs) (onto_first x ls)
 first_onto x xs [] h = refl
 first_onto x xs (l ∷ ls) h = ap (λ (ys : List ℕ). x ∷ ys) h
 
-first_split : (p : ℕ → Bool) (xs : List ℕ) → FirstIs xs (split p xs)
+first_split : (p : ℕ → Bool) (xs : List ℕ) → FirstIs xs (slice_split p xs)
 first_split p [] = refl
 first_split p (x ∷ xs) = go (p x) (first_split p xs)
   where
-    go : (t : Bool) → FirstIs xs (split p xs) → FirstIs (x ∷ xs) (cond t ([] ∷ split p xs) (onto x (split p xs)))
+    go : (t : Bool) → FirstIs xs (slice_split p xs) → FirstIs (x ∷ xs) (cond t ([] ∷ slice_split p xs) (onto_first x (slice_split p xs)))
     go true h = refl
-    go false h = first_onto x xs (split p xs) h
+    go false h = first_onto x xs (slice_split p xs) h
 
 behind_first : (P : Word → Type 0) (vs ws : List Word) → AllByRecursion P (vs ++ ws) → AllByRecursion P ws
 behind_first P [] ws a = a
@@ -38,19 +37,19 @@ stands_at : (before : List ℕ) (x : ℕ) (xs l : List ℕ) → take (length l) 
 stands_at before x xs l h = ap (λ (ys : List ℕ). take (suc (length l)) ys) (drop_at before (x ∷ xs) (length before + 1 - 1) (omega arith)) ∙ ap (λ (ys : List ℕ). x ∷ ys) h
 
 -- the first piece, one byte longer, and the words behind it
-placed_onto : (line : ℕ) (before : List ℕ) (x : ℕ) (xs : List ℕ) (ls : List (List ℕ)) → FirstIs xs ls → AllByRecursion (Placed line (before ++ x ∷ xs)) (words_from line (length before + 1 + 1) ls) → AllByRecursion (Placed line (before ++ x ∷ xs)) (words_from line (length before + 1) (onto x ls))
+placed_onto : (line : ℕ) (before : List ℕ) (x : ℕ) (xs : List ℕ) (ls : List (List ℕ)) → FirstIs xs ls → AllByRecursion (Placed line (before ++ x ∷ xs)) (words_from line (length before + 1 + 1) ls) → AllByRecursion (Placed line (before ++ x ∷ xs)) (words_from line (length before + 1) (onto_first x ls))
 placed_onto line before x xs [] h a = ((refl, stands_at before x xs [] refl), tt)
 placed_onto line before x xs (l ∷ ls) h a =
     ((refl, stands_at before x xs l h), subst (λ (k : ℕ). AllByRecursion (Placed line (before ++ x ∷ xs)) (words_from line k ls)) (omega arith) (behind_first (Placed line (before ++ x ∷ xs)) (word_at line (length before + 1 + 1) l) (words_from line (length before + 1 + 1 + (length l + 1)) ls) a))
 
-placed_split : (line : ℕ) (before xs : List ℕ) → AllByRecursion (Placed line (before ++ xs)) (words_from line (length before + 1) (split (stops Blank) xs))
+placed_split : (line : ℕ) (before xs : List ℕ) → AllByRecursion (Placed line (before ++ xs)) (words_from line (length before + 1) (slice_split is_blank xs))
 placed_split line before [] = tt
 placed_split line before (x ∷ xs) =
-    go (stops Blank x) (subst (λ (bs : List ℕ). AllByRecursion (Placed line bs) (words_from line (length before + 1 + 1) (split (stops Blank) xs))) (append_assoc before (x ∷ []) xs) (subst (λ (k : ℕ). AllByRecursion (Placed line ((before ++ x ∷ []) ++ xs)) (words_from line (k + 1) (split (stops Blank) xs))) (length_push before x) (placed_split line (before ++ x ∷ []) xs)))
+    go (is_blank x) (subst (λ (bs : List ℕ). AllByRecursion (Placed line bs) (words_from line (length before + 1 + 1) (slice_split is_blank xs))) (append_assoc before (x ∷ []) xs) (subst (λ (k : ℕ). AllByRecursion (Placed line ((before ++ x ∷ []) ++ xs)) (words_from line (k + 1) (slice_split is_blank xs))) (length_push before x) (placed_split line (before ++ x ∷ []) xs)))
   where
-    go : (t : Bool) → AllByRecursion (Placed line (before ++ x ∷ xs)) (words_from line (length before + 1 + 1) (split (stops Blank) xs)) → AllByRecursion (Placed line (before ++ x ∷ xs)) (words_from line (length before + 1) (cond t ([] ∷ split (stops Blank) xs) (onto x (split (stops Blank) xs))))
+    go : (t : Bool) → AllByRecursion (Placed line (before ++ x ∷ xs)) (words_from line (length before + 1 + 1) (slice_split is_blank xs)) → AllByRecursion (Placed line (before ++ x ∷ xs)) (words_from line (length before + 1) (cond t ([] ∷ slice_split is_blank xs) (onto_first x (slice_split is_blank xs))))
     go true a = a
-    go false a = placed_onto line before x xs (split (stops Blank) xs) (first_split (stops Blank) xs) a
+    go false a = placed_onto line before x xs (slice_split is_blank xs) (first_split is_blank xs) a
 
 -- a word in the lines of a text
 abbrev InLines : List (List ℕ) → Word → Type 0
@@ -67,4 +66,4 @@ placed_lines before (l ∷ ls) =
     here w (e, s) = subst (λ (bs : List ℕ). StandsIn bs w) (sym (get_or_at before l ls [] (w.line - 1) (omega arith))) s
 
 pub words_stand_lem : WordsStand
-words_stand_lem text = placed_lines [] (split (stops Line) text)
+words_stand_lem text = placed_lines [] (slice_split ends_line text)

@@ -1,10 +1,12 @@
 -- The words of a text with the places where they stand, and the numbers that they are. Assumes nothing.
-use Rattle.std.specs.Prelude.{ℕ, ◌+◌, List, [], ◌∷◌, ◌++◌, length, ℤ, Ok, Err, Result}
+use Rattle.std.specs.Prelude.{ℕ, ◌+◌, List, [], ◌∷◌, ◌++◌, length, ℤ, ◌≡◌, Ok, Err, Result}
+use Rattle.std.specs.List.{slice_split}
 use Rattle.text.specs.declared.digits.Misread.{Misread}
-use Rattle.text.specs.declared.pieces.Stop.TheVariants.{Line, Blank}
 use Rattle.text.specs.declared.words.BadWord.{BadWord}
+use Rattle.text.specs.declared.words.Unread.{Unread}
+use Rattle.text.specs.declared.words.Unread.TheVariants as unread
 use Rattle.text.specs.Digits.{number_of, ranged, signed32}
-use Rattle.text.specs.Pieces.{stops, split}
+use Rattle.text.specs.Pieces.{ends_line, is_blank}
 
 -- a word, the line that it stands in, and the column of its first byte: both are counted from 1
 pub record Word : Type 0 where
@@ -24,7 +26,7 @@ words_from line column (w ∷ ws) = word_at line column w ++ words_from line (co
 
 -- the words of a line
 abbrev pub line_words : ℕ → List ℕ → List Word
-line_words line bytes = words_from line 1 (split (stops Blank) bytes)
+line_words line bytes = words_from line 1 (slice_split is_blank bytes)
 
 -- the words of lines, the first of which has a number
 abbrev pub lines_words : ℕ → List (List ℕ) → List Word
@@ -33,7 +35,7 @@ lines_words line (l ∷ ls) = line_words line l ++ lines_words (line + 1) ls
 
 -- the words of a text, as they are read
 abbrev pub words_of : List ℕ → List Word
-words_of text = lines_words 1 (split (stops Line) text)
+words_of text = lines_words 1 (slice_split ends_line text)
 
 -- one number in front of others, where these could be read
 abbrev pub consed : ℤ → Result (List ℤ) BadWord → Result (List ℤ) BadWord
@@ -54,3 +56,13 @@ numbers_of (w ∷ ws) = told_first w (ranged signed32 (number_of w.bytes)) (numb
 abbrev pub on_to : List ℤ → Result (List ℤ) BadWord → Result (List ℤ) BadWord
 on_to zs (Ok more) = Ok (zs ++ more)
 on_to zs (Err bad) = Err bad
+
+-- what is said of words where they are not taken for numbers: which is the first that is none, and nothing where memory ran out
+abbrev pub TellsBad : Unread → Result (List ℤ) BadWord → Type 0
+TellsBad (unread.Word bad) r = r ≡ Err bad
+TellsBad (unread.Memory e) r = Unit {0}
+
+-- what came of reading says what the words are: all their numbers, or why they are not taken for any
+abbrev pub Tells : {A : Type 0} → (A → List ℤ) → Result A Unread → Result (List ℤ) BadWord → Type 0
+Tells items (Ok v) r = r ≡ Ok (items v)
+Tells items (Err e) r = TellsBad e r

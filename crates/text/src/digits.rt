@@ -1,5 +1,5 @@
 //! What number a word is.
-ghost use Rattle.std.specs.Prelude.{◌≡◌, pos, neg_ℤ, Some};
+ghost use Rattle.std.specs.Prelude.{◌≡◌, Some};
 ghost use Rattle.text.specs.Digits.{with_digit, size_of, number_of, ranged, unsigned64, signed32};
 
 /// Why a word is not taken for a number.
@@ -25,8 +25,7 @@ pub fn size_of(word: &[u8]) -> Result<u64, Misread>
         return Err(Misread::NoNumber);
     }
     let mut size = Some(0);
-    for i in 0..word.len() {
-        let byte = word[i];
+    for byte in word {
         if !byte.is_ascii_digit() {
             return Err(Misread::NoNumber);
         }
@@ -35,22 +34,10 @@ pub fn size_of(word: &[u8]) -> Result<u64, Misread>
     size.ok_or(Misread::BeyondRange)
 }
 
-fn from_zero(size: u64) -> Result<i32, Misread>
-    ensures { result ≡ ranged signed32 (Some (pos size)) }
+fn in_range(number: i128) -> Result<i32, Misread>
+    ensures { result ≡ ranged signed32 (Some number) }
 {
-    if size < 1 << 31 {
-        return Ok(size as i32);
-    }
-    Err(Misread::BeyondRange)
-}
-
-fn below_zero(size: u64) -> Result<i32, Misread>
-    ensures { result ≡ ranged signed32 (Some (neg_ℤ (pos size))) }
-{
-    if size <= 1 << 31 {
-        return Ok(-(size as i64) as i32);
-    }
-    Err(Misread::BeyondRange)
+    i32::try_from(number).map_err(|_| Misread::BeyondRange)
 }
 
 /// The number of 32 bits that a word is: digits, with a `-` in front where it is below zero.
@@ -58,7 +45,7 @@ pub fn i32_of(word: &[u8]) -> Result<i32, Misread>
     ensures { result ≡ ranged signed32 (number_of word.now) }
 {
     match word {
-        [b'-', digits @ ..] => below_zero(size_of(digits)?),
-        _ => from_zero(size_of(word)?),
+        [b'-', digits @ ..] => in_range(-i128::from(size_of(digits)?)),
+        _ => in_range(i128::from(size_of(word)?)),
     }
 }

@@ -9,5 +9,5 @@ mod words;
 
 pub use digits::{Misread, i32_of, size_of};
 pub use laws::{numbers_read_back, words_are_all, words_stand};
-pub use pieces::{Stop, run};
-pub use words::{BadWord, numbers};
+pub use pieces::is_blank;
+pub use words::{BadWord, Unread, numbers};

@@ -1,11 +1,11 @@
 //! The numbers of a text, or the first of its words that is none.
-ghost use Rattle.std.specs.Prelude.{◌≡◌, IfOk, vec_items};
-ghost use Rattle.std.specs.Result.{result_map_both};
-ghost use Rattle.text.specs.Words.{word_at, line_words, words_of, numbers_of, on_to};
+ghost use Rattle.std.specs.Prelude.{◌≡◌, vec_items, alloc_error};
+ghost use Rattle.text.specs.declared.words.Unread.TheVariants as unread;
+ghost use Rattle.text.specs.Words.{word_at, line_words, words_of, numbers_of, on_to, Tells};
 
 use crate::digits::{Misread, i32_of};
-use crate::pieces::{Stop, run};
-use std::alloc::{AllocError, Global};
+use crate::pieces::is_blank;
+use std::alloc::{AllocError, AllocFailed, Global};
 
 /// A word that is no number of 32 bits, and where it starts: the line, and the byte in that line, both
 /// counted from 1.
@@ -16,68 +16,70 @@ pub struct BadWord {
     pub fault: Misread,
 }
 
-fn push_word(
-    numbers: &mut Vec<i32>,
-    line: usize,
-    column: usize,
-    word: &[u8],
-) -> Result<Result<(), BadWord>, AllocError>
-    ensures { IfOk result (λ x. result_map_both (λ _. numbers.new.items) (λ bad. bad) x ≡ on_to numbers.old.items (numbers_of (word_at line column word.now))) }
-{
-    if word.is_empty() {
-        return Ok(Ok(()));
+/// Why a text is not taken for numbers: one of its words is none, or memory ran out.
+#[derive(Clone, Copy, Drop, Debug, PartialEq, Eq)]
+pub enum Unread {
+    Word(BadWord),
+    Memory(AllocError),
+}
+
+impl From<BadWord> for Unread {
+    ghost from_gives = { λ bad e. e ≡ unread.Word bad };
+
+    fn from(bad: BadWord) -> Unread {
+        Unread::Word(bad)
     }
-    match i32_of(word) {
-        Ok(number) => {
-            numbers.push(number)?;
-            Ok(Ok(()))
-        }
-        Err(fault) => Ok(Err(BadWord {
+}
+
+impl From<AllocError> for Unread {
+    ghost from_gives = { λ error e. e ≡ unread.Memory error };
+
+    fn from(error: AllocError) -> Unread {
+        Unread::Memory(error)
+    }
+}
+
+impl<T: Drop> From<AllocFailed<T>> for Unread {
+    ghost from_gives = { λ _ e. e ≡ unread.Memory alloc_error };
+
+    fn from(failed: AllocFailed<T>) -> Unread {
+        Unread::Memory(failed.into())
+    }
+}
+
+fn push_word(numbers: &mut Vec<i32>, line: usize, column: usize, word: &[u8]) -> Result<(), Unread>
+    ensures { Tells (λ _. numbers.new.items) result (on_to numbers.old.items (numbers_of (word_at line column word.now))) }
+{
+    if !word.is_empty() {
+        let number = i32_of(word).map_err(|fault| BadWord {
             line,
             column,
             fault,
-        })),
+        })?;
+        numbers.push(number)?;
     }
+    Ok(())
 }
 
-fn push_line(
-    numbers: &mut Vec<i32>,
-    line: usize,
-    bytes: &[u8],
-) -> Result<Result<(), BadWord>, AllocError>
-    ensures { IfOk result (λ x. result_map_both (λ _. numbers.new.items) (λ bad. bad) x ≡ on_to numbers.old.items (numbers_of (line_words line bytes.now))) }
+fn push_line(numbers: &mut Vec<i32>, line: usize, bytes: &[u8]) -> Result<(), Unread>
+    ensures { Tells (λ _. numbers.new.items) result (on_to numbers.old.items (numbers_of (line_words line bytes.now))) }
 {
-    let mut rest = bytes;
+    // `split` does not tell where a piece stands
     let mut column: usize = 1;
-    'words: loop {
-        let end = run(rest, Stop::Blank);
-        if let Err(bad) = push_word(numbers, line, column, &rest[0..end])? {
-            return Ok(Err(bad));
-        }
-        if end >= rest.len() {
-            return Ok(Ok(()));
-        }
-        rest = &rest[end + 1..];
-        column += end + 1;
+    for word in bytes.split(|byte| is_blank(*byte)) {
+        push_word(numbers, line, column, word)?;
+        column += word.len() + 1;
     }
+    Ok(())
 }
 
 /// All words of a text as numbers of 32 bits, in the order in which they are read, or the first that is none.
-pub fn numbers(heap: Global, text: &[u8]) -> Result<Result<Vec<i32>, BadWord>, AllocError>
-    ensures { IfOk result (λ x. result_map_both vec_items (λ bad. bad) x ≡ numbers_of (words_of text.now)) }
+pub fn numbers(heap: Global, text: &[u8]) -> Result<Vec<i32>, Unread>
+    ensures { Tells vec_items result (numbers_of (words_of text.now)) }
 {
     let mut numbers = Vec::new(heap);
-    let mut rest = text;
-    let mut line: usize = 1;
-    'lines: loop {
-        let end = run(rest, Stop::Line);
-        if let Err(bad) = push_line(&mut numbers, line, &rest[0..end])? {
-            return Ok(Err(bad));
-        }
-        if end >= rest.len() {
-            return Ok(Ok(numbers));
-        }
-        rest = &rest[end + 1..];
-        line += 1;
+    for (place, line) in text.split(|byte| *byte == b'\n').enumerate() {
+        push_line(&mut numbers, place + 1, line)?;
     }
+    Ok(numbers)
 }

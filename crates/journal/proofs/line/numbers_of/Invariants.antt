@@ -3,5 +3,5 @@ use Rattle.journal.proofs.Lists.{on_to}
 use Rattle.journal.specs.Lines.{numbers_of}
 use Rattle.journal.proofs.line.numbers_of.Given as goal
 
-abbrev pub invariant-loop-i : goal.invariant-loop-i
-invariant-loop-i l = on_to (vec_items l.numbers) (numbers_of (drop l.i l.words)) ≡ numbers_of l.words
+abbrev pub invariant-loop-word : goal.invariant-loop-word
+invariant-loop-word l = on_to (vec_items l.numbers) (numbers_of (drop l.word-index l.words)) ≡ numbers_of l.words

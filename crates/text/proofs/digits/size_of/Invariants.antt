@@ -4,5 +4,5 @@ use Rattle.text.proofs.Sizes.{scan}
 use Rattle.text.proofs.digits.size_of.Given as goal
 
 -- the bytes that are left, behind the size so far, give what the word gives
-abbrev pub invariant-loop-i : goal.invariant-loop-i
-invariant-loop-i l = scan l.size (drop l.i l.word) ≡ ranged unsigned64 (size_of l.word)
+abbrev pub invariant-loop-byte : goal.invariant-loop-byte
+invariant-loop-byte l = scan l.size (drop l.byte-index l.word) ≡ ranged unsigned64 (size_of l.word)

@@ -1,35 +1,39 @@
-use Rattle.std.proofs.Common.{◌+◌, ◌-◌, [], length, take, drop, vec_items, sym, ap, ◌∙◌, arith, length-drop}
-use native.Mathlib.Nat.{sub-zero}
-use Rattle.std.proofs.lemmas.List.{take_rest, append-nil, length-take-le}
-use Rattle.text.specs.declared.pieces.Stop.TheVariants.{Blank}
-use Rattle.text.specs.Pieces.{stops, split}
+use Rattle.std.proofs.Common.{◌+◌, length, drop, vec_items, append-nil, arith, rules, tests}
+use Rattle.std.specs.List.{slice_split}
+use Rattle.std.proofs.lemmas.List.{length_push}
+use Rattle.std.proofs.lemmas.Result.{err_from_is_err_and}
+use Rattle.text.specs.Pieces.{is_blank}
 use Rattle.text.specs.Words.{word_at, words_from}
-use Rattle.text.proofs.Cuts.{cut_all, cut_more}
-use Rattle.text.proofs.Joins.{bad_word, part_read}
+use Rattle.text.proofs.Joins.{part_read, part_unread}
+use Rattle.text.proofs.Parts.{spans_split, part_turn, part_end}
 use Rattle.text.proofs.words.push_line.Goals as goal
 
-pub returns-in-Err : goal.returns-in-Err
-returns-in-Err c =
-    let h = simp sub-zero at c.in_ok-bad.ensures in
-    sym (bad_word c.args.line c.words.column (vec_items c.words.numbers) _ c.words.rest.now c.run-end.result _ _ c.run-end.ensures.value c.in-Err.is h) ∙ c.words.invariant.0
-
-pub returns-then-end-rest : goal.returns-then-end-rest
-returns-then-end-rest c =
-    let n = c.run-end.result in
-    let rest = c.words.rest.now in
-    let e = cut_all (stops Blank) rest n c.run-end.ensures.value c.if-end-rest.true in
-    let p = part_read (vec_items c.words.numbers) _ (word_at c.args.line c.words.column (take (n - 0) rest)) [] _ _ c.in_default.is c.in_ok-bad.ensures in
-    let z = append-nil (vec_items c.push_word.new.numbers) in
-    grind arith
-
-pub words-preserved : goal.words-preserved
-words-preserved c =
-    let n = c.run-end.result in
-    let rest = c.words.rest.now in
-    let e = cut_more (stops Blank) 0 rest n c.run-end.ensures.value c.if-end-rest.false in
-    let t = take_rest rest (n + 1) in
-    let w = length-take-le n rest c.run-end.ensures.within in
-    let p = part_read (vec_items c.words.numbers) _ (word_at c.args.line c.words.column (take (n - 0) rest)) (words_from c.args.line (c.words.column + (length (take n rest) + 1)) (split (stops Blank) (drop (n + 1) rest))) _ _ c.in_default.is c.in_ok-bad.ensures in
-    let d = ap length t in
-    let l = length-drop (n + 1) rest in
+pub loop-word-init : goal.loop-word-init
+loop-word-init c =
+    let s = spans_split is_blank c.args.bytes.now in
     (grind arith, omega arith)
+
+pub loop-word-preserved : goal.loop-word-preserved
+loop-word-preserved c =
+    let d = part_turn _ is_blank c.args.bytes.now (λ x b q k. search (rules, tests)) _ (cc) (cc) (cc) c.loop-word.yielded _ c.loop-word.yielded_by _ _ c.in-Some.word c.in-Some.is c.next.ensures.steps in
+    let n = length_push c.loop-word.yielded c.in-Some.word in
+    let p = part_read (vec_items c.loop-word.numbers) (vec_items c.push_word.new.numbers) (word_at c.args.line c.loop-word.column c.in-Some.word.now) (words_from c.args.line (c.loop-word.column + (length c.in-Some.word.now + 1)) (drop (length c.loop-word.yielded + 1) (slice_split is_blank c.args.bytes.now))) (cc c.in_ok-push_word.ensures) in
+    (grind arith, grind arith)
+
+pub overflow_add-column-in-loop-word : goal.overflow_add-column-in-loop-word
+overflow_add-column-in-loop-word c =
+    let d = part_turn _ is_blank c.args.bytes.now (λ x b q k. search (rules, tests)) _ (cc) (cc) (cc) c.loop-word.yielded _ c.loop-word.yielded_by _ _ c.in-Some.word c.in-Some.is c.next.ensures.steps in
+    let i = rw d at c.loop-word.invariant.1 in
+    omega arith
+
+pub returns-in_err-push_word : goal.returns-in_err-push_word
+returns-in_err-push_word c =
+    let d = part_turn _ is_blank c.args.bytes.now (λ x b q k. search (rules, tests)) _ (cc) (cc) (cc) c.loop-word.yielded _ c.loop-word.yielded_by _ _ c.in-Some.word c.in-Some.is c.next.ensures.steps in
+    let e = err_from_is_err_and c.from_residual.result c.from_residual.ensures.1 in
+    part_unread _ (vec_items c.loop-word.numbers) (word_at c.args.line c.loop-word.column c.in-Some.word.now) (words_from c.args.line (c.loop-word.column + (length c.in-Some.word.now + 1)) (drop (length c.loop-word.yielded + 1) (slice_split is_blank c.args.bytes.now))) _ _ _ (cc) (rw d at c.loop-word.invariant.0) c.in_err-push_word.ensures
+
+pub returns : goal.returns
+returns c =
+    let d = part_end _ is_blank c.args.bytes.now (λ x b q k. search (rules, tests)) _ (cc) (cc) (cc) c.loop-word.yielded _ c.loop-word.yielded_by _ _ c.in-None.is c.next.ensures.steps in
+    let n = append-nil (vec_items c.loop-word.numbers) in
+    grind arith
