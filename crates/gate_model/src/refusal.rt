@@ -35,7 +35,8 @@ pub enum Ground {
     UnlawfulAward,
 }
 
-/// Where a ground is met: the line at which it was first, or 0, and the fault where a price was missing.
+/// Where a ground is met: the line at which it was first, or 0 where the call has none (the rules give every refusal a line), and
+/// the fault where a price was missing.
 // the fault stands here and not in the ground, since a table of grounds names each before it is tried
 #[derive(Clone, Copy, PartialEq, Eq, Debug)]
 pub struct Met {

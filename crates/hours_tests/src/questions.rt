@@ -148,7 +148,7 @@ fn answer(expected: Answer, series: Series) -> Result<i32, Fault> {
     })
 }
 
-/// Puts all questions to a source, which is under the proxy or not.
+/// Puts all questions to a source, which is under the proxy or not: a flag, since all that differs is the column of the answers.
 fn answers_all<S: HourSource>(rt: &impl Abort, source: &S, under_proxy: bool) {
     for (location, slot, year, hour, bare, proxied) in PRICES {
         let series = Series {
