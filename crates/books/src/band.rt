@@ -40,7 +40,8 @@ pub struct Band<B> {
     limits: Limits,
 }
 
-/// Limits that make no band, and the book that it was to stand on.
+/// Limits that make no band, and the book that it was to stand on. A type of its own, as `RefusedRows` is: each names what it gives
+/// back.
 #[derive(Drop)]
 pub struct RefusedBand<B> {
     pub unlawful: Unlawful,

@@ -10,7 +10,7 @@ ghost use Rattle.books.specs.PathYears.{There, history_bounded};
 use super::book::Book;
 use super::count::Hours;
 use super::fault::no_hours;
-use super::key::{Key, Path};
+use super::key::Key;
 use super::mean::Mean;
 use super::stress::stress;
 use super::total::YearTotal;
@@ -53,14 +53,14 @@ fn year_between<S: HourSource>(
 /// The totals of both years. The losses are left in the years, in two parameters: each step reads or writes one of them, and a struct would be opened at each.
 fn read_path<S: HourSource>(
     source: &S,
-    path: Path,
-    slot: Slot,
+    key: Key,
     recent: &mut Year,
     distant: &mut Year,
 ) -> Result<(YearTotal, YearTotal), Fault>
-    ensures answer { result ≡ summed_years (path_years (year_of S.HourSource.LOCATIONS (S.HourSource.prices source.now)) path slot) }
-    ensures after { LeftIn (path_years (year_of S.HourSource.LOCATIONS (S.HourSource.prices source.now)) path slot) recent.new distant.new }
+    ensures answer { result ≡ summed_years (path_years (year_of S.HourSource.LOCATIONS (S.HourSource.prices source.now)) key.path key.slot) }
+    ensures after { LeftIn (path_years (year_of S.HourSource.LOCATIONS (S.HourSource.prices source.now)) key.path key.slot) recent.new distant.new }
 {
+    let Key { path, slot } = key;
     let from = Series {
         location: path.source,
         slot,
@@ -103,12 +103,12 @@ fn price_from(ahead: Hours, mean: Mean, recent: &Year, distant: &Year) -> i64
 }
 
 /// The price of a path, from the prices at its two locations: each is read once.
-fn path_price<S: HourSource>(source: &S, path: Path, slot: Slot, ahead: Hours) -> Result<i64, Fault>
-    ensures { result ≡ priced_years ahead.number (path_years (year_of S.HourSource.LOCATIONS (S.HourSource.prices source.now)) path slot) }
+fn path_price<S: HourSource>(source: &S, key: Key, ahead: Hours) -> Result<i64, Fault>
+    ensures { result ≡ priced_years ahead.number (path_years (year_of S.HourSource.LOCATIONS (S.HourSource.prices source.now)) key.path key.slot) }
 {
     let mut recent = Year::new();
     let mut distant = Year::new();
-    let (first, second) = read_path(source, path, slot, &mut recent, &mut distant)?;
+    let (first, second) = read_path(source, key, &mut recent, &mut distant)?;
     Ok(price_from(ahead, Mean::of(first, second), &recent, &distant))
 }
 
@@ -124,6 +124,6 @@ impl<S: HourSource> Book for History<S> {
         hours_of(&self.source, key.slot, RECENT)?;
         hours_of(&self.source, key.slot, DISTANT)?;
         let ahead = hours_of(&self.source, key.slot, AHEAD)?;
-        path_price(&self.source, key.path, key.slot, ahead)
+        path_price(&self.source, key, ahead)
     }
 }

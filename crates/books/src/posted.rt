@@ -16,7 +16,8 @@ pub struct Posted {
     ghost lawful: { is_some (posting_refusal rows.items) ≡ false },
 }
 
-/// Rows that make no book, as they were given, and the line that is at fault.
+/// Rows that make no book, as they were given, and the line that is at fault. A type of its own, as `RefusedRows` is: each names what
+/// it gives back.
 #[derive(Drop)]
 pub struct RefusedPosting {
     pub unlawful: Unlawful,

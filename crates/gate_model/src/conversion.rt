@@ -5,6 +5,7 @@ use books::{Key, Path};
 #[derive(Clone, Copy, PartialEq, Eq, Debug)]
 pub struct Request {
     pub path: Path,
+    /// a number, as in `Slot`
     pub class: u8,
     pub megawatts: u32,
 }

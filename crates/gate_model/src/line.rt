@@ -8,6 +8,7 @@ use books::Path;
 pub enum Line {
     Bid {
         path: Path,
+        /// a number, as in `Slot`
         class: u8,
         points: Vec<Point>,
     },

@@ -61,7 +61,7 @@ impl Account {
         }
     }
 
-    /// The cost of a month becomes a calculated charge.
+    /// The cost of a month becomes a calculated charge. What it asks is about the month, as of `drawn` about the amount.
     pub fn month_charged(self, month: u8) -> Self
         requires month { month < 13 }
         requires small { Within 9000000000000000000 (self.calculated +ℤ costs_of self.costs month) }

@@ -19,7 +19,7 @@ fn raise(costs: &mut [i64], amount: i64)
 }
 
 impl Account {
-    /// An amount more in each month of a period.
+    /// An amount more in each month of a period. What it asks is about the amount, as of `drawn`.
     pub fn costed(self, period: Period, amount: i64) -> Self
         requires lawful { lawful_period period ≡ true }
         requires small { (m : ℕ) → period.first ≤ m → Within 9000000000000000000 (costs_of self.costs m +ℤ amount) }

@@ -12,6 +12,7 @@ use super::period::{Slot, is_lawful_slot, is_past_year};
 pub struct Series {
     pub location: u8,
     pub slot: Slot,
+    /// a number, as the class of a slot is
     pub year: u8,
 }
 

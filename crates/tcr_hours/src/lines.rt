@@ -6,7 +6,7 @@ use hours::{Counts, ON_PEAK, Period, Slot, Unlawful};
 use std::fmt;
 use text::{BadWord, Misread};
 
-// Here and below, words that are this program's own: their types print otherwise elsewhere, or are a number or a `bool`.
+// Here and below, words that are this program's own: the types are another crate's, a number or a `bool`.
 fn fault_words(fault: Misread) -> &'static str
     ensures { result.now ≡ fault_words fault }
 {

@@ -7,7 +7,7 @@ use Rattle.books.proofs.history.path_price.Goals as goal
 
 pub returns : goal.returns
 returns g c =
-    let r = path_years (year_of g.S.HourSource.LOCATIONS (g.S.HourSource.prices c.args.source.now)) c.args.path c.args.slot in
+    let r = path_years (year_of g.S.HourSource.LOCATIONS (g.S.HourSource.prices c.args.source.now)) c.args.key.path c.args.key.slot in
     let first = c.in_ok-first.first in
     let second = c.in_ok-first.second in
     let recent = c.read_path.new.recent in

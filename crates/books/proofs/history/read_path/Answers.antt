@@ -8,8 +8,8 @@ use Rattle.books.proofs.history.read_path.Goals as goal
 pub returns-in_err-second-clause-answer : goal.returns-in_err-second-clause-answer
 returns-in_err-second-clause-answer g c =
     let year = year_of g.S.HourSource.LOCATIONS (g.S.HourSource.prices c.args.source.now) in
-    let p = c.args.path in
-    let s = c.args.slot in
+    let p = c.args.key.path in
+    let s = c.args.key.slot in
     let x = c.in_err-second.field-0.0 in
     let q = err_from_is_err_and c.from_residual-in_err-second.result c.from_residual-in_err-second.ensures.1 in
     let a = done_ok (year p.source s 0) _ c.in_ok-read.ensures.answer in
