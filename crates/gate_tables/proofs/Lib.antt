@@ -1,3 +1,2 @@
 pub mod MonthCosts
 pub mod Totals
-pub mod Charges
