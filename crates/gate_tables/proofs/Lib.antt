@@ -1,2 +1,1 @@
 pub mod MonthCosts
-pub mod Totals
