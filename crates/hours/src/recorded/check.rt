@@ -1,6 +1,6 @@
 //! The check of recorded hours: every number once, in its order.
 ghost use Rattle.hours.specs.RecordedFormat.{records, checked};
-ghost use Rattle.hours.specs.RecordedTables.{tables_read, tables_of, refused_at};
+ghost use Rattle.hours.specs.RecordedTables.{empty_tables, tables_read, tables_of, came_out};
 ghost use Rattle.std.specs.Prelude.{◌≡◌};
 
 use super::reader::{NO_ENTRY, Reader};
@@ -10,14 +10,15 @@ use crate::unlawful::Unlawful;
 /// More numbers are refused before any is looked at.
 const MOST_NUMBERS: usize = 1_000_000;
 
-/// Reads all numbers into empty tables, or answers the line of the first fault.
-fn read_numbers(numbers: &[i32]) -> Result<Tables, Unlawful>
-    ensures { result ≡ refused_at (tables_read numbers.now) }
+/// Reads all numbers into empty tables, which are lent, or answers the line of the first fault.
+fn read_numbers(numbers: &[i32], tables: &mut Tables) -> Result<(), Unlawful>
+    requires { tables.old ≡ empty_tables }
+    ensures { came_out result tables.new ≡ tables_read numbers.now }
 {
     if MOST_NUMBERS < numbers.len() {
         return Err(NO_ENTRY);
     }
-    let mut reader = Reader::new(numbers);
+    let mut reader = Reader::new(tables, numbers);
     let listed = 1 + reader.count()?;
     reader.entries(1..listed)?;
     let end = listed + reader.count()?;
@@ -30,16 +31,17 @@ fn read_numbers(numbers: &[i32]) -> Result<Tables, Unlawful>
 pub fn check_recorded(numbers: &[i32]) -> Result<(), Unlawful>
     ensures { result ≡ checked (records numbers.now) }
 {
-    read_numbers(numbers)?;
-    Ok(())
+    read_numbers(numbers, &mut Tables::empty())
 }
 
 /// The tables of the numbers, and empty ones where the numbers are refused.
 pub fn tables_of(numbers: &[i32]) -> Tables
     ensures { result ≡ tables_of numbers.now }
 {
-    match read_numbers(numbers) {
-        Ok(tables) => tables,
-        Err(_) => Tables::empty(),
+    let mut tables = Tables::empty();
+    // no `match` that answers the tables of either arm: each would be made beside the result, and copied
+    if read_numbers(numbers, &mut tables).is_err() {
+        tables = Tables::empty();
     }
+    tables
 }

@@ -21,12 +21,12 @@ pub const NO_ENTRY: Unlawful = Unlawful { line: 0 };
 /// How far the numbers were read.
 #[derive(Drop)]
 pub struct Reader<'a> {
-    /// what the entries before say
-    tables: Tables,
+    /// what the entries before say, lent: the tables are too large to be handed on
+    tables: &'a mut Tables,
     /// the numbers that are left
     rest: &'a [i32],
     /// the place of the next entry is at most how far the numbers were read
-    ghost near: { tables.next + length rest.now ≤ 1000002 },
+    ghost near: { tables.now.next + length rest.now ≤ 1000002 },
 }
 
 fn are_lawful_prices(prices: &[i32]) -> bool
@@ -36,21 +36,20 @@ fn are_lawful_prices(prices: &[i32]) -> bool
 }
 
 impl<'a> Reader<'a> {
-    pub fn new(rest: &'a [i32]) -> Reader<'a>
-        requires { length rest.now ≤ 1000000 }
-        ensures tables { result.tables ≡ empty_tables }
+    pub fn new(tables: &'a mut Tables, rest: &'a [i32]) -> Reader<'a>
+        requires empty { tables.old ≡ empty_tables }
+        requires few { length rest.now ≤ 1000000 }
+        ensures same { result.tables.ghost_name ≡ tables.entry.ghost_name }
+        ensures tables { result.tables.now ≡ empty_tables }
         ensures rest { result.rest.now ≡ rest.now }
     {
-        Reader {
-            tables: Tables::empty(),
-            rest,
-        }
+        Reader { tables, rest }
     }
 
     /// The entry of the first section at the front, unless it is cut short, unlawful or listed already.
     #[tactic(auto, using(crate::specs::RecordedLawful::entry_lawful))]
     fn entry(&self) -> Option<CountRow<u16>>
-        ensures answer { result ≡ entry_at in_tables self.now.tables self.now.rest.now }
+        ensures answer { result ≡ entry_at in_tables self.now.tables.now self.now.rest.now }
         ensures lawful { IfSome result (λ e. lawful_slot e.slot ≡ true) }
         ensures long { IfSome result (λ _. 6 ≤ length self.now.rest.now) }
     {
@@ -64,7 +63,7 @@ impl<'a> Reader<'a> {
     /// The head of the entry of the second section at the front, unless the head or its prices are cut short or unlawful, or it is of another count than its slot has, or there already.
     #[tactic(auto, using(crate::specs::RecordedLawful::head_lawful))]
     fn year(&self) -> Option<Head>
-        ensures answer { result ≡ option_map (λ (y : Taken). y.head) (year_at in_tables self.now.tables self.now.rest.now) }
+        ensures answer { result ≡ option_map (λ (y : Taken). y.head) (year_at in_tables self.now.tables.now self.now.rest.now) }
         ensures lawful { IfSome result (λ h. LawfulSeries h.series) }
         ensures long { IfSome result (λ h. 6 + h.hours ≤ length self.now.rest.now) }
     {
@@ -82,7 +81,8 @@ impl<'a> Reader<'a> {
         ensures answer { result ≡ refused_at (count_at self.old.rest.now) }
         ensures small { IfOk result (λ n. n < 2 ^ 31) }
         ensures rest { self.new.rest.now ≡ drop 1 self.old.rest.now }
-        ensures tables { self.new.tables ≡ self.old.tables }
+        ensures same { self.new.tables.ghost_name ≡ self.old.tables.ghost_name }
+        ensures tables { self.new.tables.now ≡ self.old.tables.now }
     {
         let (count, rest) = self.rest.split_first().ok_or(NO_ENTRY)?;
         self.rest = rest;
@@ -92,7 +92,8 @@ impl<'a> Reader<'a> {
     /// The entries of the first section, at these lines.
     pub fn entries(&mut self, lines: Range<u32>) -> Result<(), Unlawful>
         requires { lines.start ≤ lines.end }
-        ensures { came_out result (left_at self.new.tables lines.end self.new.rest.now) ≡ read_entries in_tables (lines.end - lines.start) self.old.tables lines.start self.old.rest.now }
+        ensures same { self.new.tables.ghost_name ≡ self.old.tables.ghost_name }
+        ensures read { came_out result (left_at self.new.tables.now lines.end self.new.rest.now) ≡ read_entries in_tables (lines.end - lines.start) self.old.tables.now lines.start self.old.rest.now }
     {
         for line in lines {
             let Some(entry) = self.entry() else {
@@ -107,7 +108,8 @@ impl<'a> Reader<'a> {
     /// The entries of the second section, at these lines. A loop of its own: for both sections one would need a trait whose ghost members say a second time what each reads; a closure cannot read the entry, since it would hold the tables that the loop changes.
     pub fn years(&mut self, lines: Range<u32>) -> Result<(), Unlawful>
         requires { lines.start ≤ lines.end }
-        ensures { came_out result (left_at self.new.tables lines.end self.new.rest.now) ≡ read_years in_tables (lines.end - lines.start) self.old.tables lines.start self.old.rest.now }
+        ensures same { self.new.tables.ghost_name ≡ self.old.tables.ghost_name }
+        ensures read { came_out result (left_at self.new.tables.now lines.end self.new.rest.now) ≡ read_years in_tables (lines.end - lines.start) self.old.tables.now lines.start self.old.rest.now }
     {
         for line in lines {
             let Some(head) = self.year() else {
@@ -119,12 +121,12 @@ impl<'a> Reader<'a> {
         Ok(())
     }
 
-    /// The tables, if nothing is left.
-    pub fn finish(self) -> Result<Tables, Unlawful>
-        ensures { result ≡ refused_at (ended self.entry.tables self.entry.rest.now) }
+    /// Whether nothing is left.
+    pub fn finish(&self) -> Result<(), Unlawful>
+        ensures { came_out result self.now.tables.now ≡ ended self.now.tables.now self.now.rest.now }
     {
         if self.rest.is_empty() {
-            Ok(self.tables)
+            Ok(())
         } else {
             Err(NO_ENTRY)
         }
