@@ -18,7 +18,7 @@ pub struct Row {
 pub(crate) fn row_of(rows: &[Row], key: Key) -> Option<Row>
     ensures { result ≡ listed rows.now key }
 {
-    rows.iter().copied().find(|row| row.key == key)
+    rows.iter().find(|row| row.key == key).copied()
 }
 
 fn is_lawful_row(row: Row) -> bool
