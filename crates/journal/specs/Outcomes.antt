@@ -7,6 +7,7 @@ use Rattle.hours.specs.Refusals.{unlawful_number}
 use Rattle.journal.specs.declared.outcome.Ground.{Ground}
 use Rattle.journal.specs.declared.outcome.Ground.TheVariants.{UnlawfulPosting, UnlawfulAverage, UnlawfulRecords, UnlawfulBand}
 use Rattle.journal.specs.declared.outcome.Refusal.{Refusal}
+use Rattle.journal.specs.declared.outcome.FaultNumbers.{FaultNumbers}
 use Rattle.journal.specs.declared.outcome.Outcome.{Outcome}
 use Rattle.journal.specs.declared.outcome.Outcome.TheVariants as is
 
@@ -27,10 +28,14 @@ ground_words UnlawfulBand = codes "a limit of a band is unlawful, or the low one
 abbrev pub refusal_words : Refusal → List ℕ
 refusal_words x = codes "refused " ++ (decimal (ground_number x.ground) ++ (codes " line " ++ (decimal x.line ++ (codes ": " ++ ground_words x.ground))))
 
-abbrev pub fault_words : Fault → List ℕ
+-- the numbers of a fault, and how they are written
+abbrev pub fault_numbers : Fault → FaultNumbers
+fault_numbers x = record { layer = layer_number x.layer; cause = cause_number x.cause; location = cause_location x.cause; year = cause_year x.cause }
+
+abbrev pub fault_words : FaultNumbers → List ℕ
 fault_words x =
     codes "fault "
-    ++ (decimal (layer_number x.layer) ++ (codes " " ++ (decimal (cause_number x.cause) ++ (codes " " ++ (decimal (cause_location x.cause) ++ (codes " " ++ decimal (cause_year x.cause)))))))
+    ++ (decimal x.layer ++ (codes " " ++ (decimal x.cause ++ (codes " " ++ (decimal x.location ++ (codes " " ++ decimal x.year))))))
 
 abbrev pub outcome_words : Outcome → List ℕ
 outcome_words is.Book = codes "ok book"

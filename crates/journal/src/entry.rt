@@ -21,6 +21,9 @@ fn push_entry(
 ) -> Result<(), AllocError>
     ensures { OnOk result (map entry_of entries.new.items ≡ map entry_of entries.old.items ++ one_entry line bytes.now) }
 {
+    if bytes.is_empty() {
+        return Ok(());
+    }
     let words = words_of(heap, bytes)?;
     if !words.is_empty() {
         let said = said_of(heap, words.as_slice())?;

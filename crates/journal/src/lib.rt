@@ -14,4 +14,4 @@ mod word;
 pub use closing::report;
 pub use entry::{Entry, read};
 pub use line::{Limits, Plain, Said};
-pub use outcome::{Ground, Outcome, Refusal};
+pub use outcome::{FaultNumbers, Ground, Outcome, Refusal};

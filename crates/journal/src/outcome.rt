@@ -1,6 +1,6 @@
 //! What comes of a call, and the line that is written for it.
 ghost use Rattle.std.specs.Prelude.{◌≡◌, Some};
-ghost use Rattle.journal.specs.Outcomes.{ground_number, ground_words, refusal_words, outcome_words};
+ghost use Rattle.journal.specs.Outcomes.{ground_number, ground_words, refusal_words, fault_numbers, fault_words, outcome_words};
 ghost use Rattle.journal.specs.Report.{kind_of, counts_as};
 
 use hours::Fault;
@@ -22,11 +22,34 @@ pub struct Refusal {
     pub line: u32,
 }
 
+/// A fault by the numbers that are printed of it, whatever they are: a fault of the library has a location and a year only where its
+/// cause has them.
+#[derive(Clone, Copy, PartialEq, Eq, Debug)]
+pub struct FaultNumbers {
+    pub layer: u8,
+    pub cause: u8,
+    pub location: u8,
+    pub year: u8,
+}
+
+impl From<Fault> for FaultNumbers {
+    ghost from_gives = { λ fault numbers. numbers ≡ fault_numbers fault };
+
+    fn from(fault: Fault) -> FaultNumbers {
+        FaultNumbers {
+            layer: u8::from(fault.layer),
+            cause: u8::from(fault.cause),
+            location: fault.cause.location(),
+            year: fault.cause.year(),
+        }
+    }
+}
+
 #[derive(Clone, Copy)]
 pub enum Outcome {
     Book,
     Price(i64),
-    Fault(Fault),
+    Fault(FaultNumbers),
     Refused(Refusal),
     Unreadable(usize),
 }
@@ -106,6 +129,20 @@ impl fmt::Display for Refusal {
     }
 }
 
+impl fmt::Display for FaultNumbers {
+    ghost output = { λ x. Some (fault_words x) };
+
+    fn fmt<W: fmt::Write>(&self, f: &mut fmt::Formatter<W>) -> fmt::Result {
+        let FaultNumbers {
+            layer,
+            cause,
+            location,
+            year,
+        } = *self;
+        write!(f, "fault {layer} {cause} {location} {year}")
+    }
+}
+
 impl fmt::Display for Outcome {
     ghost output = { λ x. Some (outcome_words x) };
 
@@ -113,13 +150,7 @@ impl fmt::Display for Outcome {
         match self {
             Outcome::Book => write!(f, "ok book"),
             Outcome::Price(price) => write!(f, "price {price}"),
-            Outcome::Fault(fault) => {
-                let layer = u8::from(fault.layer);
-                let cause = u8::from(fault.cause);
-                let location = fault.cause.location();
-                let year = fault.cause.year();
-                write!(f, "fault {layer} {cause} {location} {year}")
-            }
+            Outcome::Fault(fault) => write!(f, "{fault}"),
             Outcome::Refused(refusal) => write!(f, "{refusal}"),
             Outcome::Unreadable(line) => write!(f, "unreadable {line}"),
         }

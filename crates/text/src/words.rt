@@ -64,6 +64,9 @@ fn push_word(numbers: &mut Vec<i32>, line: usize, column: usize, word: &[u8]) ->
 fn push_line(numbers: &mut Vec<i32>, line: usize, bytes: &[u8]) -> Result<(), Unread>
     ensures { Tells (λ _. numbers.new.items) result (on_to numbers.old.items (numbers_of (line_words line bytes.now))) }
 {
+    if bytes.is_empty() {
+        return Ok(());
+    }
     // `split` does not tell where a piece stands
     let mut column: usize = 1;
     for word in bytes.split(|byte| is_blank(*byte)) {
