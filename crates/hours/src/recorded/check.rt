@@ -34,14 +34,12 @@ pub fn check_recorded(numbers: &[i32]) -> Result<(), Unlawful>
     read_numbers(numbers, &mut Tables::empty())
 }
 
-/// The tables of the numbers, and empty ones where the numbers are refused.
-pub fn tables_of(numbers: &[i32]) -> Tables
-    ensures { result ≡ tables_of numbers.now }
+/// Lists in empty tables what the numbers say, and leaves them empty where the numbers are refused.
+pub fn list_in(tables: &mut Tables, numbers: &[i32])
+    requires { tables.old ≡ empty_tables }
+    ensures { tables.new ≡ tables_of numbers.now }
 {
-    let mut tables = Tables::empty();
-    // no `match` that answers the tables of either arm: each would be made beside the result, and copied
-    if read_numbers(numbers, &mut tables).is_err() {
-        tables = Tables::empty();
+    if read_numbers(numbers, tables).is_err() {
+        *tables = Tables::empty();
     }
-    tables
 }

@@ -3,7 +3,7 @@ ghost use Rattle.hours.specs.RecordedFormat.{records_of, counts_in, prices_in};
 ghost use Rattle.hours.specs.RecordedTables.{tables_of};
 ghost use Rattle.std.specs.Prelude.{◌≡◌, List, ℤ, is_some};
 
-use super::check::tables_of;
+use super::check::list_in;
 use super::tables::Tables;
 use crate::counts::Counts;
 use crate::period::{Slot, is_lawful_slot};
@@ -30,7 +30,8 @@ impl Recorded {
     pub fn new(numbers: Vec<i32>) -> Recorded
         ensures { result ≡ numbers.items }
     {
-        let tables = tables_of(numbers.as_slice());
+        let mut tables = Tables::empty();
+        list_in(&mut tables, numbers.as_slice());
         Recorded { numbers, tables }
     }
 
