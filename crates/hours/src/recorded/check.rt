@@ -40,6 +40,6 @@ pub fn list_in(tables: &mut Tables, numbers: &[i32])
     ensures { tables.new ≡ tables_of numbers.now }
 {
     if read_numbers(numbers, tables).is_err() {
-        *tables = Tables::empty();
+        tables.clear();
     }
 }

@@ -51,6 +51,15 @@ impl Tables {
         }
     }
 
+    /// Empties the tables where they stand.
+    pub fn clear(&mut self)
+        ensures { self.new ≡ empty_tables }
+    {
+        self.counts.fill(None);
+        self.starts.fill(0);
+        self.next = 2;
+    }
+
     pub fn counts_of(&self, slot: Slot) -> Option<Counts<u16>>
         ensures { result ≡ tabled_counts self.now slot }
     {
