@@ -64,6 +64,7 @@ fn push_word(numbers: &mut Vec<i32>, line: usize, column: usize, word: &[u8]) ->
 fn push_line(numbers: &mut Vec<i32>, line: usize, bytes: &[u8]) -> Result<(), Unread>
     ensures { Tells (λ _. numbers.new.items) result (on_to numbers.old.items (numbers_of (line_words line bytes.now))) }
 {
+    // an empty line has no words, and to ask `split` for its one empty piece takes as long as to find where the line ends
     if bytes.is_empty() {
         return Ok(());
     }
