@@ -13,7 +13,8 @@ use Rattle.hours.specs.declared.recorded.entry.Head.{Head}
 use Rattle.hours.specs.declared.recorded.tables.Tables.{Tables}
 use Rattle.hours.specs.RecordedEntries.{and_then, head_from, fitting, lawful_price}
 use Rattle.hours.specs.RecordedFormat.{or_refused, Left, Prices, Taken, entry_at, read_entries, read_prices, prices_after, head_at, year_at, read_years, checked}
-use Rattle.hours.specs.RecordedTables.{tabled_counts, has_start, with_entry, with_series, in_tables, came_out}
+use Rattle.hours.specs.RecordedTables.{tabled_counts, has_start, with_entry, with_series, in_tables, refused_at, came_out}
+use Rattle.hours.specs.Years.{clash}
 use Rattle.hours.specs.RecordedLawful.{through}
 
 -- what a slice from a place on has
@@ -156,7 +157,16 @@ year_read start end t xs h start' end' u all some p q o w held =
     ∙ sym (one_year (end - start) t start xs some ∙ ap (λ (o : Option Taken). or_refused o start (λ y. read_years in_tables (end - start - 1) (with_series t y.head y.prices) (start + 1) y.rest)) a.1)
     ∙ held
 
--- how the check comes out
+-- how the check comes out, of tables that the reading answers
+pub checked_err : (r : Result Tables ℕ) (e : Unlawful) → Err e ≡ refused_at r → Err e ≡ checked r
+checked_err (Ok t) e h = clash t e (sym h)
+checked_err (Err line) e h = cc
+
+pub checked_ok : (r : Result Tables ℕ) (t : Tables) → Ok t ≡ refused_at r → Ok tt ≡ checked r
+checked_ok (Ok u) t h = refl
+checked_ok (Err line) t h = clash t (record { line = line }) h
+
+-- and of tables that are lent to it
 pub checked_by : (x : Result Unit Unlawful) (t : Tables) (r : Result Tables ℕ) → came_out x t ≡ r → x ≡ checked r
 checked_by (Ok u) t r e = ap checked e
 checked_by (Err bad) t r e = ap checked e
