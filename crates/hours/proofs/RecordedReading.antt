@@ -157,7 +157,7 @@ year_read start end t xs h start' end' u all some p q o w held =
     ∙ sym (one_year (end - start) t start xs some ∙ ap (λ (o : Option Taken). or_refused o start (λ y. read_years in_tables (end - start - 1) (with_series t y.head y.prices) (start + 1) y.rest)) a.1)
     ∙ held
 
--- how the check comes out, of tables that the reading answers
+-- how the check comes out of a reading that answers its tables; the code's own fills tables that are lent, as below
 pub checked_err : (r : Result Tables ℕ) (e : Unlawful) → Err e ≡ refused_at r → Err e ≡ checked r
 checked_err (Ok t) e h = clash t e (sym h)
 checked_err (Err line) e h = cc
@@ -166,7 +166,7 @@ pub checked_ok : (r : Result Tables ℕ) (t : Tables) → Ok t ≡ refused_at r 
 checked_ok (Ok u) t h = refl
 checked_ok (Err line) t h = clash t (record { line = line }) h
 
--- and of tables that are lent to it
+-- and of one that is lent them
 pub checked_by : (x : Result Unit Unlawful) (t : Tables) (r : Result Tables ℕ) → came_out x t ≡ r → x ≡ checked r
 checked_by (Ok u) t r e = ap checked e
 checked_by (Err bad) t r e = ap checked e
